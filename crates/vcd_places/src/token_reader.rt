@@ -5,17 +5,21 @@ ghost use Rattle.vcd_read.specs.Tokens.{is_space};
 ghost use Rattle.vcd_read.specs.Reading.{tokens_after};
 ghost use Rattle.vcd_places.specs.NextTokens.{IsNextToken, IsTokenAt, is_token_boundary};
 
-/// A token, and the place of its first byte.
+/// A token, and where it is.
 #[derive(Clone, Copy)]
 pub(crate) struct PlacedToken<'a> {
+    /// The place of its first byte: the number of bytes before it.
     pub start: usize,
+    /// Its bytes.
     pub bytes: &'a [u8],
 }
 
-/// A text, and the place up to which its tokens are taken.
+/// A text whose tokens are taken in their order.
 #[derive(Drop)]
 pub(crate) struct TokenReader<'a> {
+    /// The text.
     pub text: &'a [u8],
+    /// The number of bytes up to which its tokens are taken.
     pub at: usize,
     ghost boundary: { is_token_boundary text.now at ≡ true },
 }

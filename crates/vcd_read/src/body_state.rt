@@ -17,9 +17,11 @@ use std::alloc::Global;
 /// How far a body is read.
 #[derive(Drop)]
 pub(crate) struct BodyState<T: ChangeVisitor> {
+    /// The current time, and the visitor of the changes.
     pub timed: TimedVisitor<T>,
-    /// The line of the dump section that is open.
+    /// The line of the dump section that is open, if one is.
     pub dump_section: Option<u64>,
+    /// Where the text so far ends.
     pub place: OpenItem,
 }
 

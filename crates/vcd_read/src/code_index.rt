@@ -9,11 +9,12 @@ ghost use Rattle.vcd_read.specs.CodeIndexes.{net_at_entry};
 use std::alloc::{AllocError, Global};
 use std::collections::BTreeMap;
 
-/// Where the net of a code of at most three bytes is: on the page of the bytes after the first, at the entry of the
-/// first byte.
+/// Where the net of a code of at most three bytes is.
 #[derive(Clone, Copy)]
 pub(crate) struct CodePlace {
+    /// The index of the page, which the bytes after the first determine.
     pub page: usize,
+    /// The index of the entry on that page, which the first byte determines.
     pub entry: usize,
 }
 

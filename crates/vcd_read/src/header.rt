@@ -28,6 +28,7 @@ const MAX_SIZE: u64 = 65_536;
 /// What the sections so far declare.
 #[derive(Drop)]
 pub(crate) struct Definitions<D: DeclarationVisitor> {
+    /// The identifier codes of the variables, and their nets.
     pub codes: Codes,
     /// The visitor of the scopes and the variables.
     pub declarations: D,
@@ -36,9 +37,13 @@ pub(crate) struct Definitions<D: DeclarationVisitor> {
 /// What the first token of a section opens.
 #[derive(Clone, Copy)]
 enum Opening {
+    /// `$var`.
     Var,
+    /// `$scope`.
     Scope,
+    /// `$upscope`.
     Upscope,
+    /// `$enddefinitions`.
     EndDefinitions,
     /// A section that says nothing of the variables.
     Skipped,

@@ -7,10 +7,12 @@ use crate::fault::FaultKind;
 use crate::number::decimal;
 use memchr::{memchr, memrchr};
 
-/// A name, and the index after it, if there is one.
+/// The reference of a variable.
 #[derive(Clone, Copy)]
 pub(crate) struct Reference<'t> {
+    /// The name.
     pub name: &'t [u8],
+    /// The numbers of the leftmost and of the rightmost bit, if there is an index.
     pub index: Option<(u32, u32)>,
 }
 

@@ -20,7 +20,9 @@ pub(crate) struct Clock {
 /// The current time, and the visitor of the changes.
 #[derive(Drop)]
 pub(crate) struct TimedVisitor<T: ChangeVisitor> {
+    /// The visitor of the changes.
     pub visitor: T,
+    /// The current time.
     pub clock: Clock,
 }
 

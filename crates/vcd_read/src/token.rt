@@ -14,17 +14,21 @@ use crate::number::{Leading, SAFE_DIGITS, leading_number};
 use crate::runs::{above_space_end, bits_end};
 use crate::shape::is_bit;
 
-/// A token, and the place of its first byte.
+/// A token, and where it is.
 #[derive(Clone, Copy)]
 pub(crate) struct Token<'a> {
+    /// The number of bytes of the piece before it.
     pub at: usize,
+    /// Its bytes.
     pub bytes: &'a [u8],
 }
 
-/// A piece of a text, and the place up to which it is read.
+/// A piece of a text whose tokens are read.
 #[derive(Drop)]
 pub(crate) struct Reader<'a> {
+    /// The piece.
     pub text: BodyPiece<'a>,
+    /// The number of bytes of the piece that are read.
     pub at: usize,
     ghost within: { at ≤ length text.bytes.now },
 }

@@ -8,6 +8,7 @@ use vcd_read::ChangeVisitor;
 /// A visitor that takes the time of the first instant that ends.
 #[derive(Drop)]
 pub(crate) struct FirstTimeVisitor {
+    /// The time, in the unit of the dump's `$timescale`, or `None` if no instant has ended.
     pub time: Option<u64>,
 }
 

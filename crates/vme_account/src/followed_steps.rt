@@ -18,8 +18,11 @@ use vme_trace::{Lines, Step};
 pub(crate) struct FollowedSteps {
     /// The levels after the steps so far, on both sides.
     view: StepView,
+    /// The memories of the monitors.
     memories: Memories,
+    /// What is noted of the steps up to the first break.
     pub notes: StepNotes,
+    /// What is noted of each line.
     pub lines: LineNotes,
 }
 

@@ -21,6 +21,7 @@ const KEPT_AFTER_BREAK: u32 = 3;
 /// What is known of the steps so far.
 #[derive(Drop)]
 pub(crate) struct RunningAccount {
+    /// The monitors, and what is noted of the steps.
     pub judged: FollowedSteps,
     /// The last steps up to the end, but at most three after the break.
     pub kept: StoredSteps,

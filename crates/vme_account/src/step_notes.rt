@@ -18,6 +18,7 @@ use vme_trace::{Break, Lines, Step};
 /// What is noted of the steps so far, up to the first break.
 #[derive(Clone, Copy, Debug, PartialEq, Eq)]
 pub(crate) struct StepNotes {
+    /// The first break, if there is one.
     pub found: Option<Break>,
     /// What is kept of the marks before the break.
     pub marked: Marked,
@@ -25,6 +26,7 @@ pub(crate) struct StepNotes {
     pub events: StretchEvents,
     /// The times of the instants that an explanation reports.
     pub times: KnownTimes,
+    /// Where judging starts and ends, and the last tenure.
     pub stretches: Stretches,
 }
 

@@ -22,6 +22,7 @@ pub(crate) struct Stretches {
     pub last_reset: Option<u32>,
     /// The last reset, unless judging started again after it.
     pub ended: Option<u32>,
+    /// The last tenure, if there is one.
     pub tenure: Option<StartedTenure>,
 }
 

@@ -16,6 +16,7 @@ use vme_listing::{ListedVerdict, Row};
 pub(crate) struct PlannedChange {
     /// From which instant on.
     pub instant: u32,
+    /// The variable.
     pub variable: ShownVariable,
     /// The index of the row that the variable shows from then on. Without one it shows that nothing
     /// is in progress.

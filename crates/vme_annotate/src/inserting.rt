@@ -31,6 +31,7 @@ use vme_trace::{Failed, Sink};
 /// A dump, and what is inserted into it.
 #[derive(Clone, Copy)]
 pub(crate) struct Annotation<'a> {
+    /// The bytes of the dump.
     pub dump: &'a [u8],
     /// The listing of the recording that a binding makes of the dump.
     pub listing: &'a TimedListing,

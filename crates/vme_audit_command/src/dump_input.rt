@@ -33,7 +33,9 @@ impl Model for DumpInput {
 /// Why nothing more is read.
 #[derive(Clone, Copy, Debug)]
 pub(crate) enum ReadFault {
+    /// Reading the dump fails.
     Failed,
+    /// Memory runs out.
     Memory,
 }
 

@@ -17,13 +17,16 @@ use vme_monitor::over_stretches::StretchPhase;
 use vme_monitor::view::StepView;
 use vme_trace::{Change, Lines};
 
-/// The memories of the monitors, and what was counted and which events happened so far.
+/// An audit so far.
 #[derive(Clone, Copy, Debug, PartialEq, Eq)]
 pub(crate) struct Audit {
+    /// The memories of the monitors.
     pub memories: Memories,
+    /// What was counted.
     pub tally: Tally,
+    /// Which events happened.
     pub events: AskedEvents,
-    /// The instant of the last break.
+    /// The instant of the last break, if there was one.
     pub last_break: Option<u64>,
 }
 

@@ -8,6 +8,8 @@ use crate::source::LevelSource;
 pub(crate) struct Assignment {
     /// The number of the statement's line in the text, from 1; of the last line, for a group that the text leaves out.
     pub line: u64,
+    /// The lines.
     pub group: Group,
+    /// Where their levels come from.
     pub source: LevelSource,
 }

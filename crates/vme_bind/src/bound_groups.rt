@@ -18,6 +18,7 @@ use vme_trace::{Level, Line, Lines};
 /// A range of consecutive bits of a net.
 #[derive(Clone, Copy)]
 pub(crate) struct BitRange {
+    /// The number of the net.
     pub net: u32,
     /// The place of the first bit; the leftmost bit of the net is at place 0.
     pub first: u32,
@@ -25,10 +26,12 @@ pub(crate) struct BitRange {
     pub count: usize,
 }
 
-/// One bit of a net, by its place from the left.
+/// One bit of a net.
 #[derive(Clone, Copy)]
 pub(crate) struct BitPlace {
+    /// The number of the net.
     pub net: u32,
+    /// Its place: the leftmost bit of the net is at place 0.
     pub place: usize,
 }
 
@@ -44,7 +47,9 @@ pub(crate) enum GroupSource {
 /// A group, and where its levels come from.
 #[derive(Clone, Copy)]
 pub(crate) struct BoundGroup {
+    /// The lines of the group.
     pub group: Group,
+    /// Where their levels come from.
     pub source: GroupSource,
 }
 

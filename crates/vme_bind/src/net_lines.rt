@@ -9,10 +9,12 @@ use crate::bound_groups::{BoundGroup, LineSource, bound_group_source};
 use std::alloc::{AllocError, Global};
 use vme_trace::{LINE_COUNT, Line, Lines};
 
-/// A line, and the place of its bit in the values of a net, from the left.
+/// A line whose level comes from a bit of a net.
 #[derive(Clone, Copy)]
 pub(crate) struct LineBit {
+    /// The line.
     pub line: Line,
+    /// The place of the bit in the values of the net: the leftmost bit is at place 0.
     pub place: usize,
 }
 

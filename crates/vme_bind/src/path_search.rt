@@ -15,17 +15,22 @@ use vcd_read::{Declaration, Scopes};
 /// The candidates so far. Candidates for the same bits count once.
 #[derive(Clone, Copy)]
 pub(crate) enum PathMatch {
+    /// There is no candidate.
     Nothing,
+    /// All candidates are these bits.
     Only(BitRange),
+    /// Two candidates are different bits.
     Several,
 }
 
 /// An assignment, and what is found of its variable so far.
 #[derive(Drop)]
 pub(crate) struct PathSearch<'b> {
+    /// The assignment.
     pub assignment: &'b Assignment,
     /// How many of the open scopes, from the outermost, its path matches.
     pub matched_scopes: usize,
+    /// What is found of its variable.
     pub found: PathMatch,
 }
 

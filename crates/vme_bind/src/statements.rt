@@ -6,19 +6,23 @@ ghost use Rattle.vme_bind.specs.Text.{words, statement_on, without_return, state
 use crate::words::LineWords;
 use memchr::memchr;
 
-/// A statement: a line that is neither blank nor a comment, as its first word and those after it.
+/// A statement: a line that is neither blank nor a comment.
 #[derive(Drop)]
 pub(crate) struct Statement<'a> {
     /// The line's number, from 1.
     pub line: u64,
+    /// The first word.
     pub first: &'a [u8],
+    /// The words after the first.
     pub others: LineWords<'a>,
 }
 
-/// The rest of a text, and the number of its first line.
+/// A text whose statements are taken in their order.
 #[derive(Drop)]
 pub(crate) struct Statements<'a> {
+    /// The bytes of the text that are left.
     rest: &'a [u8],
+    /// The number of the first line that is left, from 1.
     line: u64,
     ghost fits: { line + length rest.now < 2 ^ 64 },
 }

@@ -14,10 +14,12 @@ pub const MOST_BITS: u32 = 64;
 /// The greatest number of instants of a dump. With more, the error is want of memory.
 const MOST_INSTANTS: u32 = 268_435_456;
 
-/// Which bits of a net were seen Low, and which High: the bits of the two numbers, from the right.
+/// Which levels the last 64 bits of a net have had. In both numbers bit k, from the right, is that of the net's bit k.
 #[derive(Clone, Copy)]
 pub(crate) struct NetLevels {
+    /// The bits that were Low.
     pub low: u64,
+    /// The bits that were High.
     pub high: u64,
 }
 

@@ -25,7 +25,9 @@ use vcd_read::{BodyReader, FaultKind, VcdFault, read_front, whole_tokens};
 pub(crate) struct SurveyedBody {
     /// The prefix of the text in which the definitions end.
     front: Vec<u8>,
+    /// The names that the definitions declare.
     names: DeclaredNames,
+    /// The reader of the body, with the levels so far.
     body_reader: BodyReader<LevelsSeen>,
 }
 
@@ -34,6 +36,7 @@ pub(crate) struct SurveyedBody {
 pub(crate) enum SurveyStage {
     /// The definitions don't end in the bytes that were seen, and no byte was taken.
     Definitions,
+    /// The definitions are read, and a part of the body.
     Body(SurveyedBody),
     /// The dump has a fault.
     Failed(NonMemoryFault),

@@ -14,13 +14,16 @@ pub(crate) struct Bound<'a> {
     pub place: u32,
 }
 
-/// The words of an assignment in a binding.
+/// The two words of an assignment in a binding, `NAME = SOURCE`.
 #[derive(Clone, Copy)]
 pub(crate) struct Assigned<'a> {
+    /// The word before the equals sign.
     pub name: &'a [u8],
+    /// The word after the equals sign.
     pub source: &'a [u8],
 }
 
+/// Whether a byte separates the words of a line.
 fn is_blank(byte: u8) -> bool {
     matches!(byte, b' ' | b'\t' | b'\r')
 }

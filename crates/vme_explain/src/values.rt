@@ -93,8 +93,11 @@ fn acknowledge_line(distance: u8, slots: u8) -> Option<Line> {
 /// Which bus or chain a row shows.
 #[derive(Clone, Copy)]
 enum ValueBus {
+    /// The address modifier code.
     Modifier,
+    /// The address, A01 to A31.
     Address,
+    /// The data, D00 to D31.
     Data,
     /// The grant chain of a level, net 0 on the right.
     Grants(u8),

@@ -7,8 +7,11 @@ use vme_declarations::{EMPTY_HASH, hash_of};
 pub(crate) enum Direction {
     /// The name says none.
     Unknown,
+    /// What the board receives from the bus.
     Input,
+    /// What the board drives and receives.
     Both,
+    /// What the board drives on the bus.
     Output,
     /// A register of the board that keeps the signal.
     Register,
@@ -26,6 +29,7 @@ pub(crate) struct Affix {
     pub after: u64,
     /// The hash of the words for a bus, before and after.
     pub bus: u64,
+    /// The direction of the signal.
     pub direction: Direction,
     /// Whether there is a mark of a signal that is asserted when it is Low.
     pub is_marked: bool,
@@ -34,8 +38,11 @@ pub(crate) struct Affix {
 /// What a word of an affix is.
 #[derive(Clone, Copy, PartialEq, Eq)]
 enum WordKind {
+    /// A mark of a signal that is asserted when it is Low.
     Polarity,
+    /// A direction.
     Direction(Direction),
+    /// A name of the bus.
     Bus,
     /// It says nothing.
     Filler,

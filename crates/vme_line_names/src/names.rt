@@ -113,7 +113,9 @@ const WORDS: [(&[u8], NamedLines, bool); 58] = [
 /// One way to read a name.
 #[derive(Clone, Copy)]
 pub(crate) struct NameReading {
+    /// The lines that are named.
     pub named: NamedLines,
+    /// The words before and after their name.
     pub affix: Affix,
     /// Whether the names of lines in a binding have the word.
     pub is_line_name: bool,

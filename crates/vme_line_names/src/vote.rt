@@ -8,36 +8,48 @@ use vme_declarations::{
     group_of, has_cycle, has_handshake,
 };
 
-/// A reading of a variable's name: the hashes of its style, the groups of its lines, and those of them that move.
+/// A reading of a variable's name.
 #[derive(Clone, Copy, Debug, PartialEq, Eq, PartialOrd, Ord)]
 struct Ballot {
+    /// The hash of the words before the name of the line.
     before: u64,
+    /// The hash of the words after it.
     after: u64,
+    /// The hash of the words for a bus.
     bus: u64,
     /// The place of the variable in the order of declaration.
     variable: usize,
+    /// The groups of its lines.
     found: Groups,
+    /// Those of them of which a line moves.
     moving: Groups,
 }
 
 /// The style of a scope, and the groups that are found by it.
 #[derive(Clone, Copy)]
 pub(crate) struct ScopeVote {
+    /// The index of the scope.
     pub scope: usize,
     /// The number of scopes around it, the outermost included.
     pub depth: usize,
+    /// The style.
     pub style: Affix,
+    /// The groups of which a line is found.
     pub found: Groups,
+    /// Those of them of which a line moves.
     pub moving: Groups,
-    /// The place of its first variable in the order of declaration.
+    /// The place in the order of declaration of the first variable of the style.
     variable: usize,
 }
 
-/// The buffers that are used for one scope after another, so that no memory is taken anew.
+/// The buffers that are used for one scope after another, so that their memory is allocated once.
 #[derive(Drop)]
 pub(crate) struct VoteCounter {
+    /// The readings of one name.
     readings: Vec<NameReading>,
+    /// The ballots of the scope.
     ballots: Vec<Ballot>,
+    /// The sums of the ballots, one for each style.
     totals: Vec<ScopeVote>,
 }
 
@@ -87,7 +99,7 @@ impl VoteCounter {
         }
     }
 
-    /// The vote of a scope, if anything is found in it.
+    /// The vote of the scope with this index, if anything is found in it. It fails if memory runs out.
     pub(crate) fn vote(
         &mut self,
         declared: &DeclaredNames,

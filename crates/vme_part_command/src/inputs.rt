@@ -43,13 +43,16 @@ pub(crate) enum PartInputFault {
 /// Why an input isn't read as a part.
 #[derive(Clone, Copy, Debug)]
 enum PartInputError {
+    /// Memory runs out.
     Memory,
+    /// The input is no part.
     Fault(PartInputFault),
 }
 
 /// Why no part is joined from the inputs.
 #[derive(Clone, Copy, Debug)]
 pub(crate) enum NoJoin {
+    /// Memory runs out.
     Memory,
     /// The input with this index is no part.
     Input(usize, PartInputFault),

@@ -4,10 +4,12 @@ use crate::markup::{Attribute, Attributes, Markup, Tag};
 use std::alloc::{AllocError, Global};
 use vme_text::Text;
 
-/// A point of a picture.
+/// A point of a picture, in quarters of a millimetre from its upper left corner.
 #[derive(Clone, Copy)]
 pub(crate) struct Point {
+    /// To the right.
     pub x: u64,
+    /// Downwards.
     pub y: u64,
 }
 
@@ -86,11 +88,14 @@ pub(crate) enum BoxFill {
 /// The id of the pattern with which boxes are hatched.
 pub(crate) const HATCHING_ID: &str = "unknown";
 
-/// A box, by its upper left corner.
+/// A box, in quarters of a millimetre.
 #[derive(Clone, Copy)]
 pub(crate) struct Rectangle {
+    /// Its upper left corner.
     pub corner: Point,
+    /// Its width.
     pub width: u64,
+    /// Its height.
     pub height: u64,
 }
 

@@ -5,7 +5,7 @@ use vme_trace::{LINE_COUNT, Line, MOST_SLOTS};
 
 /// Whether arbitration is judged, or why its lines are bound to constants.
 #[derive(Clone, Copy, PartialEq, Eq)]
-pub(crate) enum AtRest {
+pub(crate) enum ArbitrationStatus {
     /// Arbitration is judged.
     Judged,
     /// The arbiter's net was found of no level, or wasn't found of a level that is used.
@@ -19,10 +19,12 @@ pub(crate) enum AtRest {
 /// What was found, and what the other lines are bound to.
 #[derive(Drop)]
 pub(crate) struct Fitted {
+    /// The bits of variables that lines were found to be.
     pub found: FoundLines,
     /// The lines that are bound to 0 unless they are found.
     low: [bool; LINE_COUNT as usize],
-    pub arbitration: AtRest,
+    /// Whether arbitration is judged, or why not.
+    pub arbitration: ArbitrationStatus,
     /// Whether the acknowledge chain is judged.
     pub has_chain: bool,
     /// The code that the address modifier lines show where they weren't found.
@@ -57,21 +59,22 @@ impl Fitted {
             .unwrap_or(false)
     }
 
+    /// Binds a line to 0 unless it is found.
     fn set_low(&mut self, line: Line) {
         if let Some(low) = self.low.get_mut(usize::from(line.number())) {
             *low = true;
         }
     }
 
-    /// Where arbitration isn't judged, BBSY is constantly Low, and the requests and grants are at rest. Where it is
-    /// judged, the request of a level whose arbiter's net was found is constantly Low if it wasn't found itself.
+    /// Where arbitration isn't judged, BBSY is constantly Low, and the requests and grants are constantly High. Where
+    /// it is judged, the request of a level whose arbiter's net was found is constantly Low if it wasn't found itself.
     fn fit_arbitration(&mut self) {
-        if self.arbitration != AtRest::Judged {
+        if self.arbitration != ArbitrationStatus::Judged {
             self.set_low(Line::BBSY);
             self.found.forget(Line::BBSY);
         }
         for level in 0..4 {
-            if self.arbitration != AtRest::Judged {
+            if self.arbitration != ArbitrationStatus::Judged {
                 self.found.forget(Line::bus_request(level));
                 for place in 0..MOST_SLOTS + 1 {
                     self.found.forget(Line::grant(level, place));
@@ -176,19 +179,19 @@ fn lacks_grants(found: &FoundLines, level: u8) -> bool {
 }
 
 /// Whether arbitration is judged, or why not.
-fn arbitration(found: &FoundLines) -> AtRest {
+fn arbitration(found: &FoundLines) -> ArbitrationStatus {
     if found.bit_of_line(Line::BBSY).is_none() {
-        return AtRest::NoBusy;
+        return ArbitrationStatus::NoBusy;
     }
     if !(0..4).any(|level| is_granted(found, level))
         || (0..4).any(|level| lacks_grants(found, level))
     {
-        return AtRest::NoGrants;
+        return ArbitrationStatus::NoGrants;
     }
     let moves = (0..4).any(|level| found.moves(Line::grant(level, 0)));
     if moves || found.moves(Line::BBSY) {
-        AtRest::Judged
+        ArbitrationStatus::Judged
     } else {
-        AtRest::NeverMoves
+        ArbitrationStatus::NeverMoves
     }
 }

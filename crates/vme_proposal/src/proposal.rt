@@ -1,6 +1,6 @@
 //! The text of a binding for what was found.
 
-use crate::fitting::{AtRest, Fitted};
+use crate::fitting::{ArbitrationStatus, Fitted};
 use crate::paths::{Naming, Paths, selection_of};
 use std::alloc::{AllocError, Global};
 use vme_declarations::{FoundLines, VariableBit, group_of};
@@ -134,7 +134,7 @@ impl<'a> Proposal<'a> {
         ] {
             self.write_group(line.name().as_bytes(), line.number(), 1)?;
         }
-        self.write_rest()?;
+        self.write_arbitration_status()?;
         self.write_group(b"BBSY", Line::BBSY.number(), 1)?;
         self.write_group(b"AM", Line::address_modifier(5).number(), 6)?;
         self.write_group(b"A", Line::address(31).number(), 31)?;
@@ -145,12 +145,12 @@ impl<'a> Proposal<'a> {
     }
 
     /// Says why arbitration isn't judged, if it isn't.
-    fn write_rest(&mut self) -> Result<(), AllocError> {
+    fn write_arbitration_status(&mut self) -> Result<(), AllocError> {
         let said = match self.fitted.arbitration {
-            AtRest::Judged => return Ok(()),
-            AtRest::NoBusy => NO_BUSY,
-            AtRest::NoGrants => NO_GRANTS,
-            AtRest::NeverMoves => NEVER_GRANTED,
+            ArbitrationStatus::Judged => return Ok(()),
+            ArbitrationStatus::NoBusy => NO_BUSY,
+            ArbitrationStatus::NoGrants => NO_GRANTS,
+            ArbitrationStatus::NeverMoves => NEVER_GRANTED,
         };
         if self.is_any_named() {
             self.text.push(said.as_bytes())
@@ -161,8 +161,8 @@ impl<'a> Proposal<'a> {
 
     /// Whether nothing is said of `name`, which isn't bound, since a comment on several names says it.
     fn has_shared_comment(&self, name: &[u8]) -> bool {
-        let rests = self.fitted.arbitration != AtRest::Judged;
-        (rests
+        let is_unjudged = self.fitted.arbitration != ArbitrationStatus::Judged;
+        (is_unjudged
             && (name == b"BBSY".as_slice() || name.starts_with(b"BR") || name.starts_with(b"BG")))
             || (name == b"IA".as_slice() && self.has_chain_comment())
     }

@@ -11,10 +11,12 @@ use std::alloc::{AllocError, Global};
 use vcd_read::ByteConsumer;
 use vme_declarations::DumpSurvey;
 
-/// A dump that is surveyed, and what is kept of it to show where it is refused.
+/// A dump that is surveyed.
 #[derive(Drop)]
 pub(crate) struct SurveyedInput {
+    /// The survey so far.
     pub survey: DumpSurvey,
+    /// What is kept to show where it is refused.
     pub context: FaultContext,
 }
 

@@ -10,10 +10,12 @@ use vcd_read::{line_feeds, whole_tokens};
 /// How many pieces of a text there are for each worker, at most.
 const PIECES_A_WORKER: u32 = 4;
 
-/// A piece of a text, and the line that it begins on.
+/// A piece of a text.
 #[derive(Clone, Copy)]
 pub(crate) struct DumpPiece<'t> {
+    /// Its bytes.
     pub bytes: &'t [u8],
+    /// The number of the line that it begins on, from 1.
     pub line: u64,
 }
 

@@ -12,7 +12,9 @@ use vme_text::Text;
 enum TimescaleSection {
     /// No section.
     Outside,
+    /// The section of the time scale.
     Timescale,
+    /// Another section.
     Other,
     /// The first time scale has ended, or the definitions have.
     After,
