@@ -6,9 +6,11 @@ use Rattle.vcd_read.specs.CodeNumbers.{code_number}
 use Rattle.vcd_read.specs.Header.{is_code, is_end}
 use Rattle.vcd_read.specs.Tokens.{Token, tokens}
 
+-- the token has these bytes
 abbrev pub is_token : List ℕ → Token → Bool
 is_token word t = bytes_eq t.bytes word
 
+-- the number of a code in memory
 abbrev pub vec_code_number : Vec ℕ → ℕ
 vec_code_number code = code_number code.items
 

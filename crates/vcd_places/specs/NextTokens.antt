@@ -29,6 +29,7 @@ pub record IsTokenAt (text : List ℕ) (at next start : ℕ) (bytes : List ℕ) 
   pub same_tokens : tokens (take start text) ≡ tokens (take at text)
   pub nonempty : 0 < length bytes
 
+-- the token is `$end`
 abbrev pub ends_section : Token → Bool
 ends_section token = is_end token.bytes
 

@@ -27,6 +27,7 @@ ends_at_boundary text = option_map_or is_space (last_or None text) true
 abbrev pub body_in : List ℕ → Option (List Token)
 body_in text = (header_from between (tokens text)).body
 
+-- a section of the definitions without its end
 abbrev pub is_unfinished : HeaderItem → Bool
 is_unfinished (whole section) = false
 is_unfinished (unfinished line) = true
@@ -50,6 +51,7 @@ ends_definitions_at text place =
 
 -- ---- the body
 
+-- the time, if the digits denote one
 abbrev pub if_time : Result ℕ FaultKind → Option ℕ
 if_time (Ok time) = Some time
 if_time (Err kind) = None

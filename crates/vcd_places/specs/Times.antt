@@ -28,6 +28,7 @@ abbrev pub IsAscendingFrom : ℕ → List ℕ → Type 0
 IsAscendingFrom least [] = Unit {0}
 IsAscendingFrom least (x ∷ xs) = (least ≤ x) × IsAscendingFrom x xs
 
+-- the number is one of these
 abbrev pub is_among : ℕ → List ℕ → Bool
 is_among n xs = list_any (λ (x : ℕ). x == n) xs
 

@@ -24,12 +24,14 @@ place_of shown.Cycle = 1
 place_of shown.Transfer = 2
 place_of shown.Verdict = 3
 
+-- the name of a variable in the dump
 abbrev pub name_of : ShownVariable → List ℕ
 name_of shown.Tenure = codes "tenure"
 name_of shown.Cycle = codes "cycle"
 name_of shown.Transfer = codes "transfer"
 name_of shown.Verdict = codes "verdict"
 
+-- the identifier code of a variable, by the codes `own` of the four variables
 abbrev pub code_of : List (List ℕ) → ShownVariable → List ℕ
 code_of own variable = get_or own (place_of variable) []
 
@@ -44,6 +46,7 @@ declared_words scope own =
     codes "$scope" ∷ codes "module" ∷ scope ∷ codes "$end" ∷ flat_map (declaration own) all_shown
     ++ codes "$upscope" ∷ codes "$end" ∷ []
 
+-- a word with a space after it
 abbrev pub with_space : List ℕ → List ℕ
 with_space word = word ++ 32 ∷ []
 

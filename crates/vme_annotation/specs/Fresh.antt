@@ -31,6 +31,7 @@ scope_name underscores = codes "vmecheck" ++ replicate underscores 95
 abbrev pub has_part : List ℕ → Variable → Bool
 has_part name v = list_any (λ part. bytes_eq part name) (slice_split (λ b. b == 46) v.path)
 
+-- one of the variables has the scope's name in its path
 abbrev pub has_name : List Variable → ℕ → Bool
 has_name variables underscores = list_any (has_part (scope_name underscores)) variables
 

@@ -7,6 +7,7 @@ pub record PutChange : Type 0 where
   pub place : ℕ
   pub change : ShownChange
 
+-- the change that is inserted
 abbrev pub change_of : PutChange → ShownChange
 change_of p = p.change
 

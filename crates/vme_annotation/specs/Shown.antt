@@ -37,6 +37,7 @@ all_shown = shown.Tenure ∷ shown.Cycle ∷ shown.Transfer ∷ shown.Verdict �
 abbrev pub idle_text : List ℕ
 idle_text = codes "-"
 
+-- `variable` shows `text` from `instant` on
 abbrev pub change_to : ℕ → List ℕ → ShownVariable → ShownChange
 change_to instant text variable = record { instant = instant; variable = variable; text = text }
 
@@ -61,6 +62,7 @@ space_text modifier =
     if highest_address modifier == 31 then codes "A32"
     else if highest_address modifier == 23 then codes "A24" else codes "A16"
 
+-- `_BLT` for the class of block transfers, nothing for another
 abbrev pub block_text : Class → List ℕ
 block_text class.K = codes "_BLT"
 block_text class.S = []
@@ -71,28 +73,35 @@ block_text class.F = []
 abbrev pub tenure_text : ℕ → ℕ → List ℕ
 tenure_text level slot = codes "slot" ++ decimal slot ++ codes "_BR" ++ decimal level
 
+-- the address space, `_BLT` for a block transfer, and the address in hexadecimal digits
 abbrev pub address_text : Class → ℕ → ℕ → List ℕ
 address_text class modifier address =
     space_text modifier ++ block_text class ++ codes "_" ++ hexadecimal (address_digits modifier) address
 
+-- the direction of a transfer
 abbrev pub direction_text : Direction → List ℕ
 direction_text Read = codes "READ"
 direction_text Write = codes "WRITE"
 
+-- `_BERR` for an answer by BERR, nothing for one by DTACK
 abbrev pub answer_text : AnswerLine → List ℕ
 answer_text Dtack = []
 answer_text Berr = codes "_BERR"
 
+-- the data of a write, if there are any
 abbrev pub data_text : Option Lanes → List ℕ
 data_text None = []
 data_text (Some lanes) = codes "_" ++ lanes_text lanes
 
+-- the direction of an answered transfer, its data and its answer
 abbrev pub transfer_text : Direction → AnswerLine → Option Lanes → List ℕ
 transfer_text direction line lanes = direction_text direction ++ data_text lanes ++ answer_text line
 
+-- the rule of a break and its line
 abbrev pub break_text : Rule → ℕ → List ℕ
 break_text rule line = rule_name rule ++ codes "_" ++ line_name line
 
+-- the rule and the line of the verdict's break; nothing if there is no break
 abbrev pub verdict_text : ListedVerdict → List ℕ
 verdict_text Conforming = []
 verdict_text NeverIdle = []
@@ -118,6 +127,7 @@ shown_text (Verdict outcome) = verdict_text outcome
 abbrev pub break_changes : List ℕ → ℕ → List ShownChange
 break_changes text instant = all_idle instant ++ change_to instant text shown.Verdict ∷ []
 
+-- the changes that the row of a verdict makes, whose text is `text`
 abbrev pub verdict_changes : List ℕ → ListedVerdict → List ShownChange
 verdict_changes text Conforming = []
 verdict_changes text NeverIdle = []
@@ -137,6 +147,7 @@ changes_with text (Transfer direction line start cycle answer close lanes) = sho
 changes_with text (PendingTransfer start direction) = shows_until shown.Transfer start text None
 changes_with text (Verdict outcome) = verdict_changes text outcome
 
+-- the changes that a row makes
 unfoldable pub row_changes : Row → List ShownChange
 row_changes row = changes_with (shown_text row) row
 

@@ -43,21 +43,25 @@ category_of allowances b =
     else if is_unreadable b.rule then category.Unreadable
     else category.Broken
 
+-- the first word of the line of a break, with a space after it
 abbrev pub category_name : BreakCategory → List ℕ
 category_name category.Broken = codes "broken "
 category_name category.Unreadable = codes "unreadable "
 category_name category.Allowed = codes "allowed "
 
+-- the text of a break that counts so
 abbrev pub audit_break_text : BreakCategory → Break → List ℕ
 audit_break_text s b = break_text (category_name s) b
 
 -- ---- counts
 
+-- the numbers of breaks
 abbrev pub break_counts_text : BreakCounts → List ℕ
 break_counts_text c =
     decimal c.broken ++ codes " broken, " ++ decimal c.unreadable ++ codes " unreadable, " ++ decimal c.allowed
     ++ codes " allowed"
 
+-- the numbers of resets, tenures and cycles
 abbrev pub cycle_counts_text : Counts → List ℕ
 cycle_counts_text c =
     decimal c.resets ++ codes " resets, " ++ decimal c.tenures ++ codes " tenures, "
@@ -65,6 +69,7 @@ cycle_counts_text c =
     ++ codes " single, " ++ decimal c.block ++ codes " block, " ++ decimal c.free ++ codes " free, "
     ++ decimal c.acknowledge ++ codes " acknowledge)"
 
+-- the numbers of transfers
 abbrev pub transfer_counts_text : Counts → List ℕ
 transfer_counts_text c =
     decimal (c.reads + c.writes) ++ codes " transfers (" ++ decimal c.reads ++ codes " read, " ++ decimal c.writes
@@ -79,9 +84,11 @@ unasked_among e rules = filter (λ r. not (asks_by e r)) rules
 abbrev pub unasked : AskedEvents → List Rule
 unasked e = unasked_among e all_rules
 
+-- the name of a rule after a space
 abbrev pub spaced_name : Rule → List ℕ
 spaced_name r = 32 ∷ rule_name r
 
+-- the name of a rule after a space if its event didn't happen, else nothing
 abbrev pub name_unless_asked : AskedEvents → Rule → List ℕ
 name_unless_asked e r = if asks_by e r then [] else spaced_name r
 
@@ -94,6 +101,8 @@ abbrev pub unasked_line : List ℕ → List Rule → List ℕ
 unasked_line head [] = []
 unasked_line head (r ∷ rs) = head ++ line_of (codes "never asked:" ++ names_text (r ∷ rs))
 
+-- the lines with the counts, and the one that names the rules that are never asked, if there are any; each begins with
+-- `head`
 abbrev pub count_lines : List ℕ → BreakCounts → AuditFindings → List ℕ
 count_lines head breaks f =
     head ++ line_of (break_counts_text breaks) ++ head ++ line_of (cycle_counts_text f.counts)
@@ -101,6 +110,7 @@ count_lines head breaks f =
 
 -- ---- outcomes
 
+-- why a recording isn't covered
 abbrev pub gap_text : CoverageGap → List ℕ
 gap_text NeverIdle = codes "not covered: never idle"
 gap_text (NeverIdleBehind instant) = codes "not covered: never idle behind instant " ++ decimal instant
@@ -110,16 +120,19 @@ gap_text (Hang instant time) =
     codes "not covered: transfer at instant " ++ decimal instant ++ codes " time " ++ decimal time
     ++ codes " without an answer"
 
+-- the outcome of a conforming recording with this many allowed breaks
 abbrev pub conforming_text : ℕ → List ℕ
 conforming_text allowed =
     if allowed == 0 then codes "conforming" else codes "conforming with " ++ decimal allowed ++ codes " allowed"
 
+-- the text of an outcome
 abbrev pub outcome_text : Outcome → List ℕ
 outcome_text (Conforming allowed) = conforming_text allowed
 outcome_text (NotCovered gap) = gap_text gap
 outcome_text outcome.Broken = codes "broken"
 outcome_text outcome.Unreadable = codes "unreadable"
 
+-- the exit status of an outcome
 abbrev pub outcome_status : Outcome → ℕ
 outcome_status (Conforming n) = 0
 outcome_status outcome.Broken = 1

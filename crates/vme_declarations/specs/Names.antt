@@ -48,14 +48,16 @@ abbrev pub parent_in : Option Scope → ℕ
 parent_in None = nowhere
 parent_in (Some scope) = scope.parent
 
+-- the place of the scope around the scope at a place, or `nowhere`
 abbrev pub parent_of : DeclaredNames → ℕ → ℕ
 parent_of declared place = parent_in (slice_get (scopes declared) place)
 
--- the name of the scope at a place, if there is one
+-- the name of a scope, or nothing if there is no scope
 abbrev pub name_in : DeclaredNames → Option Scope → List ℕ
 name_in declared None = []
 name_in declared (Some scope) = scope_name declared scope
 
+-- the name of the scope at a place, or nothing if there is no scope
 abbrev pub name_at : DeclaredNames → ℕ → List ℕ
 name_at declared place = name_in declared (slice_get (scopes declared) place)
 

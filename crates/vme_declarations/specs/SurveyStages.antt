@@ -19,5 +19,6 @@ stage_ahead Definitions rest = survey_of rest
 stage_ahead (Body body) rest = body_ahead body.front.items (body_reached body) rest
 stage_ahead (Failed first) rest = Err first.fault
 
+-- the survey of a dump so far whose text continues with `rest`, or its first fault
 abbrev pub survey_ahead : DumpSurvey → List ℕ → Result Survey VcdFault
 survey_ahead survey rest = stage_ahead survey.stage rest

@@ -16,9 +16,11 @@ use Rattle.vcd_read.specs.declared.fault.VcdFault.{VcdFault}
 
 -- ---- the number of instants
 
+-- the number of instants after a change: it stays
 abbrev pub same_count : ℕ → ℕ → List Bit → ℕ
 same_count count net bits = count
 
+-- the number of instants after one more
 abbrev pub next_count : ℕ → ℕ → ℕ
 next_count count time = count + 1
 
@@ -28,9 +30,11 @@ count_after d = fold_body same_count next_count d.head.nets 0 d.head.body
 
 -- ---- the definitions
 
+-- the definitions that a text begins with, or their first fault
 abbrev pub definitions_of : List ℕ → Result (Defined (List Variable)) VcdFault
 definitions_of text = header_of appended text (nothing_declared []) (tokens text)
 
+-- the variables of the definitions, or none if they have a fault
 abbrev pub variables_by : Result (Defined (List Variable)) VcdFault → List Variable
 variables_by (Ok d) = d.variables
 variables_by (Err fault) = []
@@ -46,6 +50,7 @@ pub record Survey : Type 0 where
   pub variables : List Variable
   pub instants : ℕ
 
+-- the survey with these variables, and with a number of instants or the first fault of the body
 abbrev pub with_count : List Variable → Result ℕ VcdFault → Result Survey VcdFault
 with_count variables count = count >>= λ n. Ok (record { variables = variables; instants = n })
 
@@ -84,6 +89,7 @@ body_survey front r = with_count (variables_in front) (outcome_of same_count nex
 
 -- ---- faults
 
+-- a fault of this kind is want of memory
 abbrev pub is_want_of_memory : FaultKind → Bool
 is_want_of_memory Memory = true
 is_want_of_memory kind = false

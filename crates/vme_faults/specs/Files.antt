@@ -5,10 +5,12 @@ use Rattle.std.specs.List.{starts_with}
 use Rattle.vme_faults.specs.declared.file_kind.FileKind.{FileKind}
 use Rattle.vme_faults.specs.declared.file_kind.FileKind.TheVariants as file
 
+-- there are no bytes
 abbrev pub is_empty : List ℕ → Bool
 is_empty [] = true
 is_empty (b ∷ bytes) = false
 
+-- the bytes begin with `magic`
 unfoldable pub begins_with : List ℕ → List ℕ → Bool
 begins_with magic bytes = starts_with nat_eq bytes magic
 
@@ -16,26 +18,31 @@ begins_with magic bytes = starts_with nat_eq bytes magic
 abbrev pub fst_magic : List ℕ
 fst_magic = 0 ∷ 0 ∷ 0 ∷ 0 ∷ 0 ∷ 0 ∷ 0 ∷ 1 ∷ 73 ∷ []
 
--- what gzip, xz, zstd and bzip2 write first
+-- what gzip writes first
 abbrev pub gzip_magic : List ℕ
 gzip_magic = 31 ∷ 139 ∷ []
 
+-- what xz writes first
 abbrev pub xz_magic : List ℕ
 xz_magic = 253 ∷ 55 ∷ 122 ∷ 88 ∷ 90 ∷ 0 ∷ []
 
+-- what zstd writes first
 abbrev pub zstd_magic : List ℕ
 zstd_magic = 40 ∷ 181 ∷ 47 ∷ 253 ∷ []
 
+-- what bzip2 writes first
 abbrev pub bzip2_magic : List ℕ
 bzip2_magic = codes "BZh"
 
--- the byte order marks of UTF-8 and of UTF-16
+-- the byte order mark of UTF-8
 abbrev pub utf8_mark : List ℕ
 utf8_mark = 239 ∷ 187 ∷ 191 ∷ []
 
+-- the byte order mark of UTF-16 whose bytes are in little-endian order
 abbrev pub little_mark : List ℕ
 little_mark = 255 ∷ 254 ∷ []
 
+-- the byte order mark of UTF-16 whose bytes are in big-endian order
 abbrev pub big_mark : List ℕ
 big_mark = 254 ∷ 255 ∷ []
 
@@ -43,33 +50,34 @@ big_mark = 254 ∷ 255 ∷ []
 abbrev pub is_space : ℕ → Bool
 is_space b = b == 32 || b == 9 || b == 10 || b == 13
 
--- the text from its first word on that isn't in a remark, i.e. a line that begins with #; `within` says that the text
--- begins in a remark
-unfoldable pub after_remarks : Bool → List ℕ → List ℕ
-after_remarks within [] = []
-after_remarks true (b ∷ text) = after_remarks (not (b == 10)) text
-after_remarks false (b ∷ text) =
-    if is_space b then after_remarks false text
-    else if b == 35 then after_remarks true text
+-- the text from its first word on that isn't in a comment, i.e. a line that begins with #; `within` says that the text
+-- begins in a comment
+unfoldable pub after_comments : Bool → List ℕ → List ℕ
+after_comments within [] = []
+after_comments true (b ∷ text) = after_comments (not (b == 10)) text
+after_comments false (b ∷ text) =
+    if is_space b then after_comments false text
+    else if b == 35 then after_comments true text
     else b ∷ text
 
--- the first word of a binding that isn't in a remark begins with `slots`, as its first line does
+-- the first word of a binding that isn't in a comment begins with `slots`, as its first line does
 unfoldable pub is_binding : List ℕ → Bool
-is_binding bytes = begins_with (codes "slots") (after_remarks false bytes)
+is_binding bytes = begins_with (codes "slots") (after_comments false bytes)
 
--- the first word of a dump that isn't in a remark begins with a dollar sign
+-- the first word of a dump that isn't in a comment begins with a dollar sign
 unfoldable pub is_dump : List ℕ → Bool
-is_dump bytes = begins_with (codes "$") (after_remarks false bytes)
+is_dump bytes = begins_with (codes "$") (after_comments false bytes)
 
 -- a tab or above, and no byte above those of ASCII
 abbrev pub is_text : ℕ → Bool
 is_text b = nat_le 9 b && nat_le b 126
 
--- UTF-16 without a mark: one of the first two bytes is 0, and the other one is of a text
+-- big-endian UTF-16 without a mark: the first byte is 0, and the second one is of a text
 unfoldable pub is_big_utf16 : List ℕ → Bool
 is_big_utf16 (high ∷ low ∷ rest) = high == 0 && is_text low
 is_big_utf16 bytes = false
 
+-- little-endian UTF-16 without a mark: the first byte is of a text, and the second one is 0
 unfoldable pub is_little_utf16 : List ℕ → Bool
 is_little_utf16 (low ∷ high ∷ rest) = is_text low && high == 0
 is_little_utf16 bytes = false
@@ -83,6 +91,7 @@ unmarked bytes =
     else if is_binding bytes then Some file.Binding
     else None
 
+-- the kind of a file that begins with these bytes, if it is a known one
 unfoldable pub file_kind : List ℕ → Option FileKind
 file_kind bytes =
     if is_empty bytes then Some file.Empty

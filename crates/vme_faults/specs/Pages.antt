@@ -107,7 +107,7 @@ causes_of kind.SlotsFirst =
     codes "binding and dump in the wrong order; an empty file, as `bind` leaves where it is refused"
     ++ turn ++ codes "or can't run; a `slots` line that is missing or stands further down"
 causes_of kind.BadLine =
-    codes "a remark behind a source; a path with a space in it; no space beside `=`; a second"
+    codes "a comment behind a source; a path with a space in it; no space beside `=`; a second"
     ++ turn ++ codes "`slots` line"
 causes_of kind.UnknownName =
     codes "a net beyond the slots, such as BG3.4 of three slots; A00; a mark at the name, such as"
@@ -157,7 +157,7 @@ remedy_of kind.SlotsFirst =
     codes "give the binding first and then the dump; `vmecheck bind bus.vcd > bus.bind` writes a"
     ++ turn ++ codes "binding"
 remedy_of kind.BadLine =
-    codes "let a remark begin with # and stand on a line of its own; write a vector such as `AM"
+    codes "let a comment begin with # and stand on a line of its own; write a vector such as `AM"
     ++ turn ++ codes "[5:0]` without the space"
 remedy_of kind.UnknownName = codes "write the name as it stands here, or more `slots`"
 remedy_of kind.NamedTwice = codes "leave one of the two out"

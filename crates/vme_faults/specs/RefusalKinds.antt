@@ -43,6 +43,7 @@ kind_name kind.TooLong = codes "too long"
 kind_name kind.TooManyBlocks = codes "too many blocks"
 kind_name kind.OutOfMemory = codes "out of memory"
 
+-- the kind has this name
 abbrev pub is_kind_name : List ℕ → RefusalKind → Bool
 is_kind_name name k = bytes_eq (kind_name k) name
 

@@ -1,7 +1,7 @@
 //! What kind of file some bytes are, by the first of them.
 
 ghost use Rattle.std.specs.Prelude.{◌≡◌, false};
-ghost use Rattle.vme_faults.specs.Files.{after_remarks, begins_with, file_help, file_kind, file_name, is_big_utf16};
+ghost use Rattle.vme_faults.specs.Files.{after_comments, begins_with, file_help, file_kind, file_name, is_big_utf16};
 ghost use Rattle.vme_faults.specs.Files.{is_binding, is_dump, is_little_utf16, is_space, is_text, unmarked};
 
 /// A kind of file.
@@ -164,26 +164,26 @@ fn is_text(byte: u8) -> bool
     9 <= byte && byte <= 126
 }
 
-/// Whether the first word that isn't in a remark begins with a dollar sign.
+/// Whether the first word that isn't in a comment begins with a dollar sign.
 #[tactic(auto, unfolding(crate::specs::Files::is_dump))]
 fn is_dump(bytes: &[u8]) -> bool
     ensures { result ≡ is_dump bytes.now }
 {
-    begins_with(after_remarks(bytes), b"$")
+    begins_with(after_comments(bytes), b"$")
 }
 
-/// Whether the first word that isn't in a remark begins with `slots`.
+/// Whether the first word that isn't in a comment begins with `slots`.
 #[tactic(auto, unfolding(crate::specs::Files::is_binding))]
 fn is_binding(bytes: &[u8]) -> bool
     ensures { result ≡ is_binding bytes.now }
 {
-    begins_with(after_remarks(bytes), b"slots")
+    begins_with(after_comments(bytes), b"slots")
 }
 
-/// The text from its first word on that isn't in a remark, i.e. a line that begins with `#`.
-#[tactic(auto, unfolding(crate::specs::Files::after_remarks))]
-fn after_remarks(text: &[u8]) -> &[u8]
-    ensures { result.now ≡ after_remarks false text.now }
+/// The text from its first word on that isn't in a comment, i.e. a line that begins with `#`.
+#[tactic(auto, unfolding(crate::specs::Files::after_comments))]
+fn after_comments(text: &[u8]) -> &[u8]
+    ensures { result.now ≡ after_comments false text.now }
 {
     let mut rest = text;
     let mut is_within = false;

@@ -130,9 +130,9 @@ const BAD_LINE: Page = Page {
     means: "a line of the binding isn't `NAME = SOURCE`",
     expected: "three words with spaces between them: a line or a group, `=`, and a path, `0`, `1` or\n    \
      `x`",
-    causes: "a remark behind a source; a path with a space in it; no space beside `=`; a second\n    \
+    causes: "a comment behind a source; a path with a space in it; no space beside `=`; a second\n    \
      `slots` line",
-    remedy: "let a remark begin with # and stand on a line of its own; write a vector such as `AM\n    \
+    remedy: "let a comment begin with # and stand on a line of its own; write a vector such as `AM\n    \
      [5:0]` without the space",
 };
 

@@ -10,6 +10,7 @@ use Rattle.vme_part_format.specs.Sums.{sum_of}
 abbrev pub line_code : Levels → ℕ → ℕ
 line_code opening l = level_code (seen_level opening l)
 
+-- the code of each line, in the order of their numbers
 abbrev pub line_codes : Levels → List ℕ
 line_codes opening = map (line_code opening) (range_with_len 0 line_count)
 

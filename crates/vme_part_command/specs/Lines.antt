@@ -9,9 +9,11 @@ use Rattle.vme_parts.specs.Telling.{verdict_of}
 use Rattle.vme_parts.specs.declared.answers.RecordingAnswer.{RecordingAnswer}
 use Rattle.vme_parts.specs.declared.answers.RecordingAnswer.TheVariants as told
 
+-- a line of the program that refuses the command, which says `what`
 abbrev pub refusing_text : List ℕ → List ℕ
 refusing_text what = codes "vmecheck: " ++ what
 
+-- the line that says `what` of the part of this number
 abbrev pub part_text : ℕ → List ℕ → List ℕ
 part_text number what = codes "vmecheck: part " ++ decimal number ++ what
 
@@ -19,10 +21,11 @@ part_text number what = codes "vmecheck: part " ++ decimal number ++ what
 abbrev pub input_text : List ℕ → List ℕ → List ℕ
 input_text name what = codes "vmecheck: " ++ head_of name ++ what
 
+-- a fault by the name of its kind and the index of the byte at which it is
 abbrev pub byte_text : ℕ → List ℕ → List ℕ
 byte_text place kind = codes "byte " ++ decimal place ++ codes ": " ++ kind
 
--- the text of a fault of a part, which comes after the name of its file
+-- the text of a fault of this kind at the byte of index `place`
 abbrev pub kind_text : PartFaultKind → ℕ → List ℕ
 kind_text fault.NotAPart place = codes "no part"
 kind_text fault.OtherVersion place = codes "a part of another version"
@@ -37,6 +40,7 @@ kind_text fault.BadWay place = byte_text place (codes "BadWay")
 kind_text fault.BadMark place = byte_text place (codes "BadMark")
 kind_text fault.Trailing place = byte_text place (codes "Trailing")
 
+-- the text of a fault, which comes after the name of its file
 abbrev pub fault_text : PartFault → List ℕ
 fault_text f = kind_text f.kind f.place
 

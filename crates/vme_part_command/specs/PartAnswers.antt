@@ -31,14 +31,17 @@ refusing text = record { out = []; error = line_of text; status = 3 }
 
 -- ---- why no part is joined from the inputs
 
+-- why an input is no part, as the line about it says it
 abbrev pub what_is_wrong : PartInputFault → List ℕ
 what_is_wrong input.Unread = codes "cannot read"
 what_is_wrong input.TooLong = codes "too long"
 what_is_wrong (input.Faulty fault) = fault_text fault
 
+-- the name of the input of index `place`
 abbrev pub name_at : List (List ℕ) → ℕ → List ℕ
 name_at names place = get_or names place []
 
+-- the line that says why parts can't be joined; `has_marks` says whether the first part has marks
 abbrev pub join_refusal_text : List (List ℕ) → JoinRefusal → Bool → List ℕ
 join_refusal_text names refusal.Memory has_marks = refusal_text Memory
 join_refusal_text names (refusal.Backplane place) has_marks =
@@ -49,6 +52,7 @@ join_refusal_text names refusal.TooManySteps has_marks = refusing_text (codes "t
 join_refusal_text names refusal.TooManyNodes has_marks = refusing_text (codes "too many marks")
 join_refusal_text names refusal.TooManySegments has_marks = refusing_text (codes "too many parts")
 
+-- the status of the command where parts can't be joined
 abbrev pub join_refusal_status : JoinRefusal → ℕ
 join_refusal_status refusal.Memory = 4
 join_refusal_status (refusal.Backplane place) = 3
@@ -58,16 +62,19 @@ join_refusal_status refusal.TooManySteps = 3
 join_refusal_status refusal.TooManyNodes = 3
 join_refusal_status refusal.TooManySegments = 3
 
+-- the line that says why no part is joined from the inputs
 abbrev pub no_join_text : List (List ℕ) → NoJoin → List ℕ
 no_join_text names none.Memory = refusal_text Memory
 no_join_text names (none.Input place fault) = input_text (name_at names place) (what_is_wrong fault)
 no_join_text names (none.Refused why has_marks) = join_refusal_text names why has_marks
 
+-- the status of the command where no part is joined from the inputs
 abbrev pub no_join_status : NoJoin → ℕ
 no_join_status none.Memory = 4
 no_join_status (none.Input place fault) = 3
 no_join_status (none.Refused why has_marks) = join_refusal_status why
 
+-- the command's answer where no part is joined from the inputs
 abbrev pub no_join_answer : List (List ℕ) → NoJoin → CommandAnswer
 no_join_answer names why =
     record { out = []; error = line_of (no_join_text names why); status = no_join_status why }
@@ -102,6 +109,8 @@ pub record Complains (answer : CommandAnswer) (err : Writing × Writing) (status
   pub err_is : TriesToWrite err.0 err.1 answer.error
   pub status_is : status ≡ answer.status
 
+-- the line of the refusal `answer`, or of that for lack of memory, is written to standard error, or a write of it
+-- fails; the status is that of the refusal
 abbrev pub ComplainsUnlessMemory : CommandAnswer → Writing × Writing → ℕ → Type 0
 ComplainsUnlessMemory answer err status = Complains answer err status ⊎ Complains (refusal_answer Memory) err status
 
@@ -110,6 +119,7 @@ abbrev pub IsFoundOrNoJoin : {X : Type 0} → (X → Type 0) → List Reading ×
 IsFoundOrNoJoin IsFound inputs (Ok x) = IsFound x
 IsFoundOrNoJoin IsFound inputs (Err why) = IsNoJoin inputs.0 inputs.1 why
 
+-- the command's answer for what is found, or where no part is joined from the inputs
 abbrev pub answer_or : {X : Type 0} → (X → CommandAnswer) → List (List ℕ) → Result X NoJoin → CommandAnswer
 answer_or answer names (Ok x) = answer x
 answer_or answer names (Err why) = no_join_answer names why
@@ -133,6 +143,8 @@ pub record IsToldOf (inputs : List Reading × List Reading) (files : Option ℕ)
   pub join : IsJoinOf inputs.0 inputs.1 part
   pub tells : DeterminesRecordingAnswer part files what
 
+-- the command `tell` ends: one part is joined from all inputs, and the answer is about the recording, which has `files`
+-- files
 abbrev pub TellsRecording : List (List ℕ) → List Reading × List Reading → Option ℕ → Writing × Writing
     → Writing × Writing
     → ℕ → Type 0
@@ -151,6 +163,8 @@ pub record IsListedOf (inputs : List Reading × List Reading) (files : Option �
   pub join : IsJoinOf inputs.0 inputs.1 part
   pub lists : DeterminesListingAnswer part files what
 
+-- the command `tell --list` ends: one part is joined from all inputs, and the recording, which has `files` files, is
+-- listed
 abbrev pub ListsRecording : List (List ℕ) → List Reading × List Reading → Option ℕ → Writing × Writing
     → Writing × Writing
     → ℕ → Type 0

@@ -64,10 +64,12 @@ FindsOfDump o bound old now found =
 
 -- ---- the answer
 
+-- the line that says why there is no part
 abbrev pub no_part_text : NoPart → List ℕ
 no_part_text (none.Refused refusal) = refusal_text refusal
 no_part_text none.OutOfRange = refusing_text (codes "out of the range of parts")
 
+-- the status of the command where there is no part
 abbrev pub no_part_status : NoPart → ℕ
 no_part_status (none.Refused refusal) = refusal_status refusal
 no_part_status none.OutOfRange = 3
@@ -76,12 +78,15 @@ no_part_status none.OutOfRange = 3
 abbrev pub written : List ℕ → CommandAnswer
 written text = record { out = text; error = []; status = 0 }
 
+-- the answer with the bytes of a part on standard output
 abbrev pub written_part : PartValue → CommandAnswer
 written_part p = written (part_bytes p)
 
+-- the command's answer where there is no part
 abbrev pub no_part_answer : NoPart → CommandAnswer
 no_part_answer why = record { out = []; error = line_of (no_part_text why); status = no_part_status why }
 
+-- the command's answer: the part, or why there is none
 abbrev pub part_answer : Result PartValue NoPart → CommandAnswer
 part_answer (Ok p) = written_part p
 part_answer (Err why) = no_part_answer why

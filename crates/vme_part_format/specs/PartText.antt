@@ -176,6 +176,7 @@ abbrev pub chains_bytes : Bool → SegmentValue → List ℕ
 chains_bytes listing s =
     table_bytes listing s.stability ++ (table_bytes listing s.grant ++ table_bytes listing s.acknowledge)
 
+-- the tables of a segment, in the order `known`, `handshake`, `stability`, `grant`, `acknowledge`
 abbrev pub tables_bytes : Bool → SegmentValue → List ℕ
 tables_bytes listing s =
     table_bytes listing s.known ++ (table_bytes listing s.handshake ++ chains_bytes listing s)

@@ -16,6 +16,7 @@ pub record NodeValue : Type 0 where
   pub first_break : Option WideBreak
   pub marks : List WideMark
 
+-- a node of the implementation as a node of the definitions
 abbrev pub node_value : TableNode → NodeValue
 node_value n = record { next = n.next; first_break = n.first_break; marks = n.marks.items }
 
@@ -24,6 +25,7 @@ pub record TableValue : Type 0 where
   pub entries : List TableEntry
   pub nodes : List NodeValue
 
+-- a table of the implementation as a table of the definitions
 abbrev pub table_value : OutcomeTable → TableValue
 table_value t = record { entries = t.entries.items; nodes = map node_value t.nodes.items }
 
@@ -42,6 +44,7 @@ pub record SegmentValue : Type 0 where
   pub grant : TableValue
   pub acknowledge : TableValue
 
+-- a segment of the implementation as a segment of the definitions
 abbrev pub segment_value : Segment → SegmentValue
 segment_value s =
     record {
@@ -68,6 +71,7 @@ pub record PartValue : Type 0 where
   pub listing : Bool
   pub segments : List SegmentValue
 
+-- a part of the implementation as a part of the definitions
 abbrev pub part_value : Part → PartValue
 part_value p =
     record { backplane = p.backplane; listing = p.listing; segments = map segment_value p.segments.items }

@@ -25,10 +25,12 @@ first_break_on second steps way first_break =
     (option_map (later_break steps) (entry_of second way).first_break)
     else first_break
 
+-- an entry of the first table, continued in the second
 abbrev pub entry_on : List TableEntry → ℕ → ℕ → TableEntry → TableEntry
 entry_on second steps between e =
     record { next = next_on second between e.next; first_break = first_break_on second steps e.next e.first_break }
 
+-- a node of the first table, continued in the second; `between` nodes of the first table are after it
 abbrev pub node_on : List TableEntry → ℕ → ℕ → NodeValue → NodeValue
 node_on second steps between n =
     record {
@@ -46,6 +48,7 @@ map_rest f (x ∷ xs) = f (length xs) x ∷ map_rest f xs
 abbrev pub nodes_on : List TableEntry → ℕ → List NodeValue → List NodeValue
 nodes_on second steps ns = map_rest (node_on second steps) ns
 
+-- a node whose instants are `by` later
 abbrev pub later_node : ℕ → NodeValue → NodeValue
 later_node by n =
     record {

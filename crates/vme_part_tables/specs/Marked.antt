@@ -62,6 +62,7 @@ is_needed needs place = option_map_or (λ b. b) (slice_get needs place) false
 abbrev pub AreNeeded : TableValue → List Bool → Type 0
 AreNeeded t needs = (k : ℕ) → k < length t.entries → is_needed needs (outcome_in t k).leaving ≡ true
 
+-- the marks if they are needed, else none
 abbrev pub marks_if : Bool → List Mark → List Mark
 marks_if true marks = marks
 marks_if false marks = []

@@ -39,6 +39,7 @@ abbrev pub next_kept : ℕ → List Bool → ℕ → ℕ
 next_kept memories keeps way =
     if nat_lt way memories then way else memories + kept_count (take (way - memories) keeps)
 
+-- a kept node, whose way counts the kept nodes alone
 abbrev pub node_kept : ℕ → List Bool → NodeValue → NodeValue
 node_kept memories keeps n = record {
   next = next_kept memories keeps n.next;
@@ -53,9 +54,11 @@ nodes_kept memories (b ∷ bs) [] = []
 nodes_kept memories (b ∷ bs) (n ∷ ns) =
     if b then node_kept memories bs n ∷ nodes_kept memories bs ns else nodes_kept memories bs ns
 
+-- an entry whose way counts the kept nodes alone
 abbrev pub entry_kept : ℕ → List Bool → TableEntry → TableEntry
 entry_kept memories keeps e = record { next = next_kept memories keeps e.next; first_break = e.first_break }
 
+-- the table with the kept nodes alone
 abbrev pub table_kept : List Bool → TableValue → TableValue
 table_kept keeps t =
     record {

@@ -10,10 +10,11 @@ use Rattle.vme_part_format.specs.declared.wide.WideBreak.{WideBreak}
 use Rattle.vme_part_format.specs.declared.wide.WideMark.{WideMark}
 use Rattle.vme_part_tables.specs.Ways.{HasWays, WideOutcome, followed_by, outcome_in}
 
--- a break and a mark of 64 bits as those of the definitions
+-- a break whose numbers have 64 bits as one of the definitions
 abbrev pub break_of : WideBreak → Break
 break_of b = record { instant = b.instant; time = b.time; rule = b.rule; line = b.line }
 
+-- a mark whose numbers have 64 bits as one of the definitions
 abbrev pub mark_of : WideMark → Mark
 mark_of m = record { instant = m.instant; kind = m.kind }
 

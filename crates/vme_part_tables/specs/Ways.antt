@@ -13,6 +13,7 @@ pub record WideOutcome : Type 0 where
   pub first_break : Option WideBreak
   pub marks : List WideMark
 
+-- the outcome of a run that ends in `memory` and shows nothing more
 abbrev pub ended_in : ℕ → WideOutcome
 ended_in memory = record { leaving = memory; first_break = None; marks = [] }
 
@@ -61,12 +62,15 @@ pub record HasWays (t : TableValue) : Type 0 where
 abbrev pub later : ℕ → ℕ → ℕ
 later n i = min (i + n) (2 ^ 64 - 1)
 
+-- the break, n instants later
 abbrev pub later_break : ℕ → WideBreak → WideBreak
 later_break n b = record { instant = later n b.instant; time = b.time; rule = b.rule; line = b.line }
 
+-- the mark, n instants later
 abbrev pub later_mark : ℕ → WideMark → WideMark
 later_mark n m = record { instant = later n m.instant; kind = m.kind }
 
+-- the outcome with its break and its marks n instants later
 abbrev pub later_outcome : ℕ → WideOutcome → WideOutcome
 later_outcome n w =
     record {

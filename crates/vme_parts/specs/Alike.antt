@@ -32,6 +32,7 @@ pub record AreAlike (s t : SegmentValue) : Type 0 where
   pub grant : AreTablesAlike s.grant t.grant
   pub acknowledge : AreTablesAlike s.acknowledge t.acknowledge
 
+-- two segments are of the same files
 abbrev pub HaveSameFiles : SegmentValue → SegmentValue → Type 0
 HaveSameFiles s t = (s.first ≡ t.first) × (s.order ≡ t.order)
 
@@ -53,11 +54,12 @@ pub record SegmentsDifferAt (ss : List SegmentValue) (number : ℕ) : Type 0 whe
 abbrev pub IsLike : ℕ → Bool → PartValue → Type 0
 IsLike backplane listing p = (p.backplane ≡ backplane) × (p.listing ≡ listing)
 
--- the backplane of the first part, and whether it has marks
+-- the sum of the backplane of the first part
 abbrev pub first_backplane : List PartValue → ℕ
 first_backplane [] = 0
 first_backplane (p ∷ ps) = p.backplane
 
+-- whether the first part has marks
 abbrev pub first_listing : List PartValue → Bool
 first_listing [] = false
 first_listing (p ∷ ps) = p.listing
@@ -80,19 +82,23 @@ SomeHaveTooManySteps files = (n k : ℕ) × HaveTooManySteps (take k (drop n fil
 abbrev pub AreTooLong : List SegmentValue → Type 0
 AreTooLong ss = (listing : Bool) (files : List Block) → AllStand listing files ss → SomeHaveTooManySteps files
 
--- how many nodes the tables of each monitor have, in all of the segments together
+-- how many nodes the tables of `Known` have, in all of the segments together
 abbrev pub known_nodes : List SegmentValue → ℕ
 known_nodes ss = sum_by (λ (s : SegmentValue). length s.known.nodes) ss
 
+-- how many nodes the tables of `Dtb` have, in all of the segments together
 abbrev pub handshake_nodes : List SegmentValue → ℕ
 handshake_nodes ss = sum_by (λ (s : SegmentValue). length s.handshake.nodes) ss
 
+-- how many nodes the tables of `Stability` have, in all of the segments together
 abbrev pub stability_nodes : List SegmentValue → ℕ
 stability_nodes ss = sum_by (λ (s : SegmentValue). length s.stability.nodes) ss
 
+-- how many nodes the tables of `Grant` have, in all of the segments together
 abbrev pub grant_nodes : List SegmentValue → ℕ
 grant_nodes ss = sum_by (λ (s : SegmentValue). length s.grant.nodes) ss
 
+-- how many nodes the tables of `Iack` have, in all of the segments together
 abbrev pub acknowledge_nodes : List SegmentValue → ℕ
 acknowledge_nodes ss = sum_by (λ (s : SegmentValue). length s.acknowledge.nodes) ss
 
@@ -119,6 +125,7 @@ AreRefusedBy backplane listing ps refusal.TooManySteps =
 AreRefusedBy backplane listing ps refusal.TooManyNodes = HaveManyNodes (segments_of ps)
 AreRefusedBy backplane listing ps refusal.TooManySegments = HaveManySegments ps
 
+-- when a refusal of the parts ps is true
 abbrev pub AreRefused : List PartValue → JoinRefusal → Type 0
 AreRefused ps why = AreRefusedBy (first_backplane ps) (first_listing ps) ps why
 

@@ -37,6 +37,7 @@ pub record HasTables (s : SegmentValue) : Type 0 where
 abbrev pub FewNodes : TableValue → TableValue → Type 0
 FewNodes a b = length a.entries + (length a.nodes + length b.nodes) < 2 ^ 32
 
+-- the ways of the composition of each monitor's tables of two segments fit in 32 bits
 pub record HaveFewNodes (s t : SegmentValue) : Type 0 where
   pub known : FewNodes s.known t.known
   pub handshake : FewNodes s.handshake t.handshake

@@ -10,6 +10,7 @@ use Rattle.vme_parts.specs.Stands.{extent_of}
 abbrev pub later_times : SegmentTimes → SegmentTimes → SegmentTimes
 later_times a b = record { number = a.number; first = a.first; last = b.last }
 
+-- the times of the steps of a segment and then those of another; `None` for a segment without steps
 abbrev pub joined_times : Option SegmentTimes → Option SegmentTimes → Option SegmentTimes
 joined_times None b = b
 joined_times (Some a) None = Some a

@@ -5,10 +5,11 @@ use Rattle.vme_trace.specs.Levels.{Levels}
 use Rattle.vme_summary.specs.Joins.{is_later_time}
 use Rattle.vme_part_format.specs.declared.segment.SegmentTimes.{SegmentTimes}
 
--- the time of the first step (`starts_at`) and of the last (`ends_at`), if there is one
+-- the time of the first step, if there is one
 abbrev pub starts_at : Option SegmentTimes → Option ℕ
 starts_at times = option_map (λ (t : SegmentTimes). t.first) times
 
+-- the time of the last step, if there is one
 abbrev pub ends_at : Option SegmentTimes → Option ℕ
 ends_at times = option_map (λ (t : SegmentTimes). t.last) times
 

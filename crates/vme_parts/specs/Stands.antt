@@ -29,6 +29,7 @@ extent_of s =
       ends = option_map (λ (t : SegmentTimes). t.last) s.times;
     }
 
+-- there are no steps
 abbrev pub is_empty : List Step → Bool
 is_empty [] = true
 is_empty (s ∷ ss) = false

@@ -21,6 +21,7 @@ use Rattle.vme_parts.specs.Files.{AllStand, AreFiles, PartCovers, IsPartOf}
 use Rattle.vme_parts.specs.Progress.{HasJudgedFiles, HaveTooManySteps}
 use Rattle.vme_part_tables.specs.Runs.{break_of}
 
+-- a verdict whose numbers have 64 bits as one of the definitions
 abbrev pub verdict_of : WideVerdict → Verdict
 verdict_of wide.Conforming = verdict.Conforming
 verdict_of (wide.Broken b) = verdict.Broken (break_of b)

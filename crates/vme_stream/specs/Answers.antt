@@ -27,10 +27,12 @@ abbrev pub bytes_within_limit : Input → Option (List ℕ) → Result (List ℕ
 bytes_within_limit input None = Err (CannotRead input)
 bytes_within_limit input (Some bytes) = if nat_le (length bytes) longest_input then Ok bytes else Err (TooLong input)
 
+-- a result whose fault is one of a binding; the refusal is `BadBinding`
 abbrev pub or_bad_binding : {A : Type 0} → Result A BindFault → Result A Refusal
 or_bad_binding (Ok x) = Ok x
 or_bad_binding (Err fault) = Err (BadBinding fault)
 
+-- a result whose fault is one of a dump; the refusal is `BadDump`
 abbrev pub or_bad_dump : {A : Type 0} → Result A VcdFault → Result A Refusal
 or_bad_dump (Ok x) = Ok x
 or_bad_dump (Err fault) = Err (BadDump fault)
@@ -104,9 +106,11 @@ pub record CommandAnswer : Type 0 where
   pub error : List ℕ
   pub status : ℕ
 
+-- the answer to a refusal: its text on standard error, and its status
 abbrev pub refusal_answer : Refusal → CommandAnswer
 refusal_answer refusal = record { out = []; error = line_of (refusal_text refusal); status = refusal_status refusal }
 
+-- the answer by the verdict: its text on standard output, and its status; or the answer to the refusal
 abbrev pub answer_by : Result Verdict Refusal → CommandAnswer
 answer_by (Ok verdict) = record { out = line_of (verdict_text verdict); error = []; status = verdict_status verdict }
 answer_by (Err refusal) = refusal_answer refusal

@@ -28,6 +28,7 @@ pub record FailsToWriteAnswer (answer : CommandAnswer) (out err : Writing × Wri
   pub err_is : TriesToWrite err.0 err.1 (line_of cannot_write_text)
   pub status_is : status ≡ 5
 
+-- the answer was written, and its status returned; or a write of the answer failed
 abbrev pub Ends : CommandAnswer → Writing × Writing → Writing × Writing → ℕ → Type 0
 Ends answer out err status = WritesAnswer answer out err status ⊎ FailsToWriteAnswer answer out err status
 

@@ -29,6 +29,7 @@ abbrev pub dump_refusal_as : FaultKind → Refusal → Refusal
 dump_refusal_as vcd.Memory refusal = Memory
 dump_refusal_as kind refusal = refusal
 
+-- the refusal for a fault of a dump
 abbrev pub dump_refusal : VcdFault → Refusal
 dump_refusal fault = dump_refusal_as fault.kind (BadDump fault)
 
@@ -37,6 +38,7 @@ abbrev pub binding_refusal_as : BindFaultKind → Refusal → Refusal
 binding_refusal_as bind.Memory refusal = Memory
 binding_refusal_as kind refusal = refusal
 
+-- the refusal for a fault of a binding
 abbrev pub binding_refusal : BindFault → Refusal
 binding_refusal fault = binding_refusal_as fault.kind (BadBinding fault)
 
@@ -51,6 +53,7 @@ judging_refusal judge.TooManySteps = BadBinding (record { line = 0; kind = bind.
 judging_refusal judge.TooManyBlocks = TooManyBlocks
 judging_refusal judge.Memory = Memory
 
+-- the refusal for a fault of a listing
 abbrev pub listing_refusal : ListFault → Refusal
 listing_refusal list.Memory = Memory
 listing_refusal fault = BadListing fault

@@ -33,12 +33,14 @@ break_text head b =
     head ++ rule_name b.rule ++ codes " at instant " ++ decimal b.instant ++ codes " time " ++ decimal b.time
     ++ codes " line " ++ line_name b.line
 
+-- the text of a verdict
 abbrev pub verdict_text : Verdict → List ℕ
 verdict_text Conforming = codes "conforming"
 verdict_text (Broken b) = break_text (codes "broken ") b
 verdict_text (Unreadable b) = break_text (codes "unreadable ") b
 verdict_text NeverIdle = codes "never idle"
 
+-- the exit status of a verdict
 abbrev pub verdict_status : Verdict → ℕ
 verdict_status Conforming = 0
 verdict_status (Broken b) = 1
@@ -47,11 +49,13 @@ verdict_status NeverIdle = 2
 
 -- ---- refusals
 
+-- the name of an input in messages
 abbrev pub input_name : Input → List ℕ
 input_name Binding = codes "binding"
 input_name Dump = codes "dump"
 input_name Listing = codes "listing"
 
+-- the name of a fault of a dump
 abbrev pub dump_fault_name : FaultKind → List ℕ
 dump_fault_name vcd.BadToken = codes "BadToken"
 dump_fault_name vcd.UnfinishedSection = codes "UnfinishedSection"
@@ -65,6 +69,7 @@ dump_fault_name vcd.TimeBackwards = codes "TimeBackwards"
 dump_fault_name vcd.NumberTooLarge = codes "NumberTooLarge"
 dump_fault_name vcd.Memory = codes "Memory"
 
+-- the text of a fault of a dump on this line
 abbrev pub dump_fault_text : ℕ → FaultKind → List ℕ
 dump_fault_text line kind = codes "vmecheck: dump line " ++ decimal line ++ codes ": " ++ dump_fault_name kind
 
@@ -81,15 +86,18 @@ binding_fault_after head bind.AmbiguousPath = head ++ codes "AmbiguousPath"
 binding_fault_after head bind.WrongWidth = head ++ codes "WrongWidth"
 binding_fault_after head bind.TooManySteps = head ++ codes "TooManySteps"
 
+-- the text of a fault of a binding on this line
 abbrev pub binding_fault_text : ℕ → BindFaultKind → List ℕ
 binding_fault_text line kind = binding_fault_after (codes "vmecheck: binding line " ++ decimal line ++ codes ": ") kind
 
+-- the text of a fault of a listing
 abbrev pub listing_fault_text : ListFault → List ℕ
 listing_fault_text list.BadHeader = codes "vmecheck: listing header"
 listing_fault_text (list.BadRow row) = codes "vmecheck: listing row " ++ decimal row ++ codes ": BadRow"
 listing_fault_text (list.Unsorted row) = codes "vmecheck: listing row " ++ decimal row ++ codes ": Unsorted"
 listing_fault_text list.Memory = codes "vmecheck: out of memory"
 
+-- the text of a refusal
 abbrev pub refusal_text : Refusal → List ℕ
 refusal_text (CannotOpen input) = codes "vmecheck: cannot open " ++ input_name input
 refusal_text (CannotRead input) = codes "vmecheck: cannot read " ++ input_name input
@@ -100,6 +108,7 @@ refusal_text (BadListing fault) = listing_fault_text fault
 refusal_text TooManyBlocks = codes "vmecheck: too many blocks"
 refusal_text Memory = codes "vmecheck: out of memory"
 
+-- the exit status of a refusal
 abbrev pub refusal_status : Refusal → ℕ
 refusal_status Memory = 4
 refusal_status refusal = 3

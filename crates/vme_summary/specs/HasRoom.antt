@@ -3,6 +3,7 @@ use Rattle.vme_monitor.specs.WholeTables.{HasRoomFor}
 use Rattle.vme_summary.specs.declared.summary.Room.{Room}
 use Rattle.vme_summary.specs.declared.summary.MonitorSummaries.{MonitorSummaries}
 
+-- each table of `first` has room to take over the same monitor's table of `second`
 pub record HasRoom (room : Room) (first second : MonitorSummaries) : Type 0 where
   pub known : HasRoomFor room.known first.known second.known
   pub handshake : HasRoomFor room.handshake first.handshake second.handshake

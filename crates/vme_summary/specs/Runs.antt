@@ -20,26 +20,31 @@ use Rattle.vme_chains.specs.AcknowledgeRules.{acknowledge_begin, acknowledge_end
 use Rattle.vme_chains.specs.AcknowledgeRules.{acknowledge_start_marks, acknowledge_observation}
 use Rattle.vme_chains.specs.declared.acknowledge.AcknowledgeMemory.{AcknowledgeMemory}
 
+-- the run of `Known`
 unfoldable pub known_run : StretchPhase Stateless → Levels → List Step → Outcome (StretchPhase Stateless)
 known_run = run_of (machine_step (observed known_observation)
     (phase_step known_begin known_start_marks known_reset_marks known_end_fault known_next))
 
+-- the run of `Dtb`
 unfoldable pub handshake_run : StretchPhase HandshakeMemory → Levels → List Step
     → Outcome (StretchPhase HandshakeMemory)
 handshake_run = run_of
     (machine_step (observed dtb_observation) (phase_step dtb_begin dtb_start_marks no_step_marks dtb_end_fault
     dtb_step))
 
+-- the run of `Stability`
 unfoldable pub stability_run : StretchPhase Holding → Levels → List Step → Outcome (StretchPhase Holding)
 stability_run =
     run_of
     (machine_step (observed stability_observation)
     (phase_step stability_begin stability_start_marks no_step_marks stability_end_fault stability_next))
 
+-- the run of `Grant`
 unfoldable pub grant_run : StretchPhase Arbitration → Levels → List Step → Outcome (StretchPhase Arbitration)
 grant_run = run_of (machine_step (observed grant_observation)
     (phase_step grant_begin grant_start_marks no_step_marks grant_end_fault grant_next))
 
+-- the run of `Iack`
 unfoldable pub acknowledge_run : StretchPhase AcknowledgeMemory → Levels → List Step
     → Outcome (StretchPhase AcknowledgeMemory)
 acknowledge_run =

@@ -19,19 +19,23 @@ use Rattle.vme_chains.specs.declared.acknowledge.AcknowledgeMemory.{AcknowledgeM
 use Rattle.vme_summary.specs.Runs.{known_run, handshake_run, stability_run, grant_run, acknowledge_run}
 use Rattle.vme_summary.specs.declared.summary.MonitorSummaries.{MonitorSummaries}
 
--- the outcome of each monitor, by its table
+-- the outcome of `Known` for a memory, by its table
 abbrev pub known_outcome : MonitorSummaries → StretchPhase Stateless → Outcome (StretchPhase Stateless)
 known_outcome s p = table_outcome s.known p
 
+-- the outcome of `Dtb` for a memory, by its table
 abbrev pub handshake_outcome : MonitorSummaries → StretchPhase HandshakeMemory → Outcome (StretchPhase HandshakeMemory)
 handshake_outcome s p = table_outcome s.handshake p
 
+-- the outcome of `Stability` for a memory, by its table
 abbrev pub stability_outcome : MonitorSummaries → StretchPhase Holding → Outcome (StretchPhase Holding)
 stability_outcome s p = table_outcome s.stability p
 
+-- the outcome of `Grant` for a memory, by its table
 abbrev pub grant_outcome : MonitorSummaries → StretchPhase Arbitration → Outcome (StretchPhase Arbitration)
 grant_outcome s p = table_outcome s.grant p
 
+-- the outcome of `Iack` for a memory, by its table
 abbrev pub acknowledge_outcome : MonitorSummaries → StretchPhase AcknowledgeMemory
     → Outcome (StretchPhase AcknowledgeMemory)
 acknowledge_outcome s p = table_outcome s.acknowledge p

@@ -87,25 +87,30 @@ pub record SaysFiles (files : RecordingFiles) (rows : List Row) : Type 0 where
   pub binding : Some (string_bytes files.binding) ≡ first_of (codes "BINDING") rows
   pub dump : Some (string_bytes files.dump) ≡ first_of (codes "DUMP") rows
 
+-- the options of `check` and `list`
 pub record SaysOptions (options : JudgeOptions) (rows : List Row) : Type 0 where
   pub block : number_in (codes "block") rows ≡ Some options.block
   pub workers : number_in (codes "workers") rows ≡ Some options.workers
   pub skew : number_in (codes "skew") rows ≡ Some options.skew
 
+-- the order of `check`
 pub record SaysCheck (order : CheckOrder) (rows : List Row) : Type 0 where
   pub options : SaysOptions order.options rows
   pub recording : SaysFiles order.recording rows
 
+-- the order of `list`
 pub record SaysList (order : ListOrder) (rows : List Row) : Type 0 where
   pub options : SaysOptions order.options rows
   pub times : order.has_times ≡ has_flag (codes "times") rows
   pub recording : SaysFiles order.recording rows
 
+-- the order of `confirm`
 pub record SaysConfirm (order : ConfirmOrder) (rows : List Row) : Type 0 where
   pub skew : number_in (codes "skew") rows ≡ Some order.skew
   pub recording : SaysFiles order.recording rows
   pub listing : Some (string_bytes order.listing) ≡ first_of (codes "LISTING") rows
 
+-- the order of `audit`
 pub record SaysAudit (order : AuditOrder) (rows : List Row) : Type 0 where
   pub transfers : number_in (codes "transfers") rows ≡ Some order.transfers
   pub allowed : map string_bytes order.allowed.items ≡ texts_in (codes "allow") rows
@@ -117,43 +122,53 @@ pub record SaysAudit (order : AuditOrder) (rows : List Row) : Type 0 where
   pub binding : Some (string_bytes order.binding) ≡ first_of (codes "BINDING") rows
   pub dumps : map string_bytes order.dumps.items ≡ texts_in (codes "DUMP") rows
 
+-- the order of `rules`
 abbrev pub SaysRules : RulesOrder → List Row → Type 0
 SaysRules order rows = option_map string_bytes order.rule ≡ first_of (codes "RULE") rows
 
+-- the order of `faults`
 abbrev pub SaysFaults : FaultsOrder → List Row → Type 0
 SaysFaults order rows = option_map string_bytes order.kind ≡ first_of (codes "KIND") rows
 
+-- the order of `variables`
 abbrev pub SaysVariables : VariablesOrder → List Row → Type 0
 SaysVariables order rows = Some (string_bytes order.dump) ≡ first_of (codes "DUMP") rows
 
+-- the order of `bind`
 pub record SaysBind (order : BindOrder) (rows : List Row) : Type 0 where
   pub slots : order.slots ≡ number_in (codes "slots") rows
   pub scope : option_map string_bytes order.scope ≡ first_of (codes "scope") rows
   pub dump : Some (string_bytes order.dump) ≡ first_of (codes "DUMP") rows
 
+-- the order of `explain`
 pub record SaysExplain (order : ExplainOrder) (rows : List Row) : Type 0 where
   pub viewer : option_map string_bytes order.viewer ≡ first_of (codes "gtkw") rows
   pub picture : option_map string_bytes order.picture ≡ first_of (codes "svg") rows
   pub skew : number_in (codes "skew") rows ≡ Some order.skew
   pub recording : SaysFiles order.recording rows
 
+-- the order of `annotate`
 pub record SaysAnnotate (order : AnnotateOrder) (rows : List Row) : Type 0 where
   pub skew : number_in (codes "skew") rows ≡ Some order.skew
   pub recording : SaysFiles order.recording rows
 
+-- the order of `part`
 pub record SaysPart (order : PartOrder) (rows : List Row) : Type 0 where
   pub number : number_in (codes "number") rows ≡ Some order.number
   pub listing : order.listing ≡ has_flag (codes "listing") rows
   pub recording : SaysFiles order.recording rows
 
+-- the order of `join`
 abbrev pub SaysJoin : JoinOrder → List Row → Type 0
 SaysJoin order rows = map string_bytes order.parts.items ≡ texts_in (codes "PART") rows
 
+-- the order of `tell`
 pub record SaysTell (order : TellOrder) (rows : List Row) : Type 0 where
   pub listing : order.listing ≡ has_flag (codes "list") rows
   pub file_count : order.file_count ≡ number_in (codes "files") rows
   pub parts : map string_bytes order.parts.items ≡ texts_in (codes "PART") rows
 
+-- an order of any task
 abbrev pub Says : Order → List Row → Type 0
 Says (to.Check order) rows = SaysCheck order rows
 Says (to.List order) rows = SaysList order rows
@@ -194,12 +209,15 @@ pub record HasUnsignedFrom (name : Text) (least : ℕ) (rows : List Row) : Type 
 abbrev pub MayHaveSignedIn : Text → ℕ → ℕ → List Row → Type 0
 MayHaveSignedIn name least greatest rows = (first_of name rows ≡ None) ⊎ HasSignedIn name least greatest rows
 
+-- the option isn't given, or its value is a number of 64 bits from `least` on
 abbrev pub MayHaveUnsignedFrom : Text → ℕ → List Row → Type 0
 MayHaveUnsignedFrom name least rows = (first_of name rows ≡ None) ⊎ HasUnsignedFrom name least rows
 
+-- the number of worker threads is given, 1 to `MOST_WORKERS`
 abbrev pub HasWorkers : List Row → Type 0
 HasWorkers rows = HasSignedIn (codes "workers") 1 MOST_WORKERS rows
 
+-- the skew is given, a number of 64 bits
 abbrev pub HasSkew : List Row → Type 0
 HasSkew rows = HasUnsignedFrom (codes "skew") 0 rows
 
@@ -212,15 +230,18 @@ pub record HasNames (rows : List Row) : Type 0 where
   pub binding : HasName (codes "BINDING") rows
   pub dump : HasName (codes "DUMP") rows
 
+-- the options of `check` and `list` are given
 pub record HasOptions (rows : List Row) : Type 0 where
   pub block : HasSignedIn (codes "block") 1 MOST_STEPS rows
   pub workers : HasWorkers rows
   pub skew : HasSkew rows
 
+-- those options are given, and the binding and the dump
 pub record HasOptionsAndNames (rows : List Row) : Type 0 where
   pub options : HasOptions rows
   pub names : HasNames rows
 
+-- what `confirm` needs is given
 pub record HasConfirmation (rows : List Row) : Type 0 where
   pub skew : HasSkew rows
   pub names : HasNames rows
@@ -231,6 +252,7 @@ pub record HasSkewAndNames (rows : List Row) : Type 0 where
   pub skew : HasSkew rows
   pub names : HasNames rows
 
+-- what `audit` needs is given
 pub record HasAudit (rows : List Row) : Type 0 where
   pub transfers : HasUnsignedFrom (codes "transfers") 0 rows
   pub stop : MayHaveUnsignedFrom (codes "stop") 1 rows
@@ -238,14 +260,17 @@ pub record HasAudit (rows : List Row) : Type 0 where
   pub workers : HasWorkers rows
   pub binding : HasName (codes "BINDING") rows
 
+-- what `bind` needs is given
 pub record HasBind (rows : List Row) : Type 0 where
   pub slots : MayHaveSignedIn (codes "slots") 1 MOST_SLOTS rows
   pub dump : HasName (codes "DUMP") rows
 
+-- what `part` needs is given
 pub record HasPart (rows : List Row) : Type 0 where
   pub number : HasSignedIn (codes "number") 0 greatest_file_number rows
   pub names : HasNames rows
 
+-- what the task needs is given
 abbrev pub HasAll : Task → List Row → Type 0
 HasAll tasks.Check rows = HasOptionsAndNames rows
 HasAll tasks.List rows = HasOptionsAndNames rows
