@@ -18,6 +18,7 @@ pub record Added : Type 0 where
   pub scope : List ℕ
   pub own : List (List ℕ)
 
+-- the bytes of a vector
 abbrev pub bytes_of : Vec ℕ → List ℕ
 bytes_of v = v.items
 

@@ -35,6 +35,7 @@ WritesTimes skew binding dump block out err status =
 
 -- ---- annotated dumps
 
+-- the annotated dump with the status of the verdict on its recording, or the answer of a refusal
 abbrev pub annotation_answer_by : List ℕ → Result Trace Refusal → CommandAnswer
 annotation_answer_by text (Ok t) =
     record { out = text; error = []; status = verdict_status (verdict_by rules_in_force t) }

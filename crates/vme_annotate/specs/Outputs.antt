@@ -8,6 +8,7 @@ pub record Held : Type 0 where
   pub bytes : List ℕ
   pub failed : Bool
 
+-- no bytes are held, and no write failed
 abbrev pub nothing_held : Held
 nothing_held = record { bytes = []; failed = false }
 
@@ -15,6 +16,7 @@ nothing_held = record { bytes = []; failed = false }
 abbrev pub IsHeld : Writing → Writing → List ℕ → List ℕ → Type 0
 IsHeld start now held made = (front : List ℕ) × (made ≡ front ++ held) × Writes start now front
 
+-- the text `made` was put: a write of it failed (`true`), or it is written or held (`false`)
 abbrev pub HasPutBy : Bool → Writing → Writing → List ℕ → List ℕ → Type 0
 HasPutBy true start now held made = FailsToWrite start now made
 HasPutBy false start now held made = IsHeld start now held made

@@ -17,6 +17,7 @@ use Rattle.vme_annotate.specs.TimedRows.{timed_line}
 
 -- ---- the listing of a recording, with times
 
+-- the times of the steps, in their order
 abbrev pub times_of : List Step → List ℕ
 times_of steps = map (λ (step : Step). step.time) steps
 

@@ -32,6 +32,7 @@ pub record AuditOptions : Type 0 where
   pub skew : ℕ
   pub is_quiet : Bool
 
+-- the options of the implementation as those of the definitions
 abbrev pub given_options : GivenOptions → AuditOptions
 given_options options =
     record {
@@ -49,6 +50,7 @@ pub record DumpAnswer : Type 0 where
 
 -- each line begins with `head`: the name of the dump's file, or nothing
 module _ (options : AuditOptions) (head : List ℕ) where
+  -- the outcome of a dump's recording
   abbrev pub dump_outcome : Trace → Outcome
   dump_outcome a = outcome options.allowances options.transfers a
 

@@ -65,5 +65,6 @@ module _ (options : AuditOptions) (binding : BoundLines) (named : NamedReading) 
     pub err_is : TriesToWrite err.0 err.1 cannot_write_line
     pub status_is : status ≡ 5
 
+  -- the lines of the dump are written, or a write of them fails
   abbrev pub AuditsNamed : Type 0
   AuditsNamed = WritesDump ⊎ CannotWriteDump

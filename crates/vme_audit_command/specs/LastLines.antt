@@ -38,6 +38,7 @@ module _ (allowances : List Allowance) (head : List ℕ) where
 abbrev pub counts_unless : Bool → List Allowance → List ℕ → Trace → List ℕ
 counts_unless is_quiet allowances head a = if is_quiet then [] else count_lines_of allowances head a
 
+-- the line of an outcome
 abbrev pub outcome_line_of : List ℕ → Outcome → List ℕ
 outcome_line_of head o = head ++ line_of (outcome_text o)
 

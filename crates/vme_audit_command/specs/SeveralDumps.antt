@@ -152,6 +152,7 @@ module _ (options : AuditOptions) (bound : BoundLines) where
     pub err_is : TriesEach err.0 err.1 (flat_map (λ (e : DumpEnd). e.errors) ends ++ cannot_write_line ∷ [])
     pub status_is : status ≡ 5
 
+  -- the lines of the dumps are written, or a write of them fails
   abbrev pub AuditsDumps : List NamedReading → List Reading → Writing × Writing → Writing × Writing → ℕ → Type 0
   AuditsDumps dumps afters out err status =
       WritesDumps dumps afters out err status ⊎ CannotWriteDumps dumps afters out err status

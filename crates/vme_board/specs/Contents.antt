@@ -20,6 +20,7 @@ filled_bit None = 0
 filled_bit (Some None) = 0
 filled_bit (Some (Some b)) = 1
 
+-- 1 if place n has a block, else 0
 abbrev pub filled_at : List (Option Block) → ℕ → ℕ
 filled_at places n = filled_bit (slice_get places n)
 

@@ -146,6 +146,7 @@ says_unreadable NeverIdle = false
 says_unreadable (Broken b) = false
 says_unreadable (Unreadable b) = true
 
+-- the verdict on the recording is that it conforms
 abbrev pub Conforms : Trace → Type 0
 Conforms t = verdict t ≡ Conforming
 

@@ -9,18 +9,23 @@ use Rattle.vme_trace.specs.declared.level.Level.TheVariants.{Low, High, Unknown}
 use Rattle.vme_trace.specs.declared.step.Change.{Change}
 use Rattle.vme_trace.specs.declared.step.Step.{Step}
 
+-- line l changes to the level x
 abbrev pub to : ℕ → Level → Change
 to l x = record { line = l; level = x }
 
+-- line l becomes low
 abbrev pub low : ℕ → Change
 low l = to l Low
 
+-- line l becomes high
 abbrev pub high : ℕ → Change
 high l = to l High
 
+-- line l becomes unknown
 abbrev pub unknown : ℕ → Change
 unknown l = to l Unknown
 
+-- a step at `time` with these changes
 abbrev pub at : ℕ → List Change → Step
 at time changes = record { time = time; changes = changes }
 
@@ -48,6 +53,7 @@ idle_changes =
 abbrev pub idle_changes_but : ℕ → List Change
 idle_changes_but l = map (λ c. if c.line == l then low l else c) idle_changes
 
+-- the levels after `idle_changes`, where every line was unknown before
 unfoldable pub idle_lines : Levels
 unfolding changed
 idle_lines = changed unknown_lines idle_changes
@@ -94,6 +100,7 @@ dump_lines = record {
 abbrev pub dumped_at : List Step → Trace
 dumped_at steps = record { opening = dump_lines; steps = steps }
 
+-- the opening `dump_lines`, and then steps with these changes, ten units of time apart, the first at time 0
 abbrev pub dumped : List (List Change) → Trace
 dumped steps = dumped_at (steps_from 0 steps)
 

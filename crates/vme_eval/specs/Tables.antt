@@ -26,9 +26,11 @@ lines_of_code c = record {
 abbrev pub is_single_transfer : Levels → Bool
 is_single_transfer v = is_single (class_of v)
 
+-- at these levels a cycle is a block transfer
 abbrev pub is_block_transfer : Levels → Bool
 is_block_transfer v = is_block_class (class_of v)
 
+-- at these levels a cycle needs the address lines up to A`n`
 abbrev pub needs_up_to : ℕ → Levels → Bool
 needs_up_to n v = (needs_of v).highest == n
 

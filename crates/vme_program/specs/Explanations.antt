@@ -22,17 +22,19 @@ use Rattle.vme_program.specs.Saves.{MayBeSaved, RefusesPlace, Saves}
 use Rattle.vme_program.specs.declared.save.InputIds.{InputIds}
 use Rattle.vme_program.specs.declared.environment.Environment.{Ghosts as Environment}
 
--- the paths at which the viewer's file and the picture are wanted, if they are
+-- the path at which the viewer's file is wanted, if it is
 abbrev pub viewer_word : ExplainOrder → Option (List ℕ)
 viewer_word order = option_map string_bytes order.viewer
 
+-- the path at which the picture is wanted, if it is
 abbrev pub picture_word : ExplainOrder → Option (List ℕ)
 picture_word order = option_map string_bytes order.picture
 
--- neither file is wanted; `AsksSomeFile`: at least one is
+-- neither file is wanted
 abbrev pub AsksNoFile : ExplainOrder → Type 0
 AsksNoFile order = (viewer_word order ≡ None) × (picture_word order ≡ None)
 
+-- at least one of the files is wanted
 abbrev pub AsksSomeFile : ExplainOrder → Type 0
 AsksSomeFile order = (is_some (viewer_word order) ≡ true) ⊎ (is_some (picture_word order) ≡ true)
 
@@ -43,12 +45,12 @@ module _ {S R : Type 0} (outside : Environment S R) (s : S) where
       (a b : PathEntry) × outside.has_entry s one a × outside.has_entry s other b
       × (both ≡ (bytes_eq one other || is_one_file a b))
 
-  -- not both files are wanted, or they are wanted at two places; `AreShared`: both are wanted at one place, and the
-  -- refusal of the picture's path says so
+  -- not both files are wanted, or they are wanted at two places
   abbrev pub AreApart : Option (List ℕ) → Option (List ℕ) → Type 0
   AreApart viewer picture =
       MatchOption viewer (Unit {0}) (λ one. MatchOption picture (Unit {0}) (λ other. IsOnePlace one other false))
 
+  -- both files are wanted at one place: `path` is the picture's path, and the refusal says so
   abbrev pub AreShared : Option (List ℕ) → Option (List ℕ) → List ℕ → SaveRefusal → Type 0
   AreShared viewer picture path refusal =
       (one : List ℕ) × (viewer ≡ Some one) × (picture ≡ Some path) × (refusal ≡ Shared) × IsOnePlace one path true
@@ -71,19 +73,20 @@ module _ {S R : Type 0} (outside : Environment S R) (s : S) where
         (λ path. Saves (outside.has_entry s) (outside.replaces s) path inputs bytes first err status)
 
   module _ (order : ExplainOrder) where
-    -- each file that is wanted may be written; `OneIsRefused`: one that is wanted, at this path, may not, and why
+    -- each file that is wanted may be written
     abbrev pub EachIsAllowed : InputIds → Type 0
     EachIsAllowed inputs = IsAllowed inputs (viewer_word order) × IsAllowed inputs (picture_word order)
 
+    -- a file is wanted at `path`, and may not be written there: `refusal` is why
     abbrev pub OneIsRefused : InputIds → List ℕ → SaveRefusal → Type 0
     OneIsRefused inputs path refusal =
         IsRefusedAt inputs (viewer_word order) path refusal ⊎ IsRefusedAt inputs (picture_word order) path refusal
 
-    -- each file that is wanted may be written, and not both at one place; `IsRefused`: one may not, at this path, or
-    -- both are at this one, and why
+    -- each file that is wanted may be written, and not both at one place
     abbrev pub AreAllowed : InputIds → Type 0
     AreAllowed inputs = EachIsAllowed inputs × AreApart (viewer_word order) (picture_word order)
 
+    -- a file that is wanted at `path` may not be written there, or both files are wanted at one place: `refusal` is why
     abbrev pub IsRefused : InputIds → List ℕ → SaveRefusal → Type 0
     IsRefused inputs path refusal =
         OneIsRefused inputs path refusal ⊎ AreShared (viewer_word order) (picture_word order) path refusal

@@ -20,6 +20,7 @@ IsRefusedOrder (to.Audit order) = Unit {0}
 IsRefusedOrder order = ⊥
 
 module _ {S R : Type 0} (outside : Environment S R) (s : S) where
+  -- the program does what the order says
   abbrev pub DoesOrder : Order → Writing × Writing → Writing × Writing → ℕ → Type 0
   DoesOrder (to.Check order) = ChecksFiles (outside.opens s) order
   DoesOrder (to.List order) = ListsFiles (outside.opens s) order

@@ -19,14 +19,17 @@ WritesRows true skew binding dump block = WritesTimes skew binding dump block
 WritesRows false skew binding dump block = WritesListing skew binding dump block
 
 module _ (opens : List ℕ → Option Reading → Type 0) where
+  -- the binding and the dump are opened, and judged
   abbrev pub ChecksFiles : CheckOrder → Writing × Writing → Writing × Writing → ℕ → Type 0
   ChecksFiles order = WithRecording opens order.recording
       (λ binding dump. ChecksSettled order.options.skew binding dump order.options.block)
 
+  -- the binding and the dump are opened, and listed
   abbrev pub ListsFiles : ListOrder → Writing × Writing → Writing × Writing → ℕ → Type 0
   ListsFiles order = WithRecording opens order.recording
       (λ binding dump. WritesRows order.has_times order.options.skew binding dump order.options.block)
 
+  -- the binding and the dump are opened, and the dump is annotated
   abbrev pub AnnotatesFiles : AnnotateOrder → Writing × Writing → Writing × Writing → ℕ → Type 0
   AnnotatesFiles order = WithRecording opens order.recording (λ binding dump. Annotates order.skew binding dump)
 
@@ -36,5 +39,6 @@ module _ (opens : List ℕ → Option Reading → Type 0) where
   ConfirmsListing order binding dump = WithInput opens (string_bytes order.listing) Listing
       (λ listing. Confirms order.skew binding dump listing)
 
+  -- the binding, the dump and the listing are opened, and the listing is compared
   abbrev pub ConfirmsFiles : ConfirmOrder → Writing × Writing → Writing × Writing → ℕ → Type 0
   ConfirmsFiles order = WithRecording opens order.recording (ConfirmsListing order)

@@ -74,6 +74,7 @@ pub record IsBetweenGroups (skew : ℕ) (t : Trace) (out : List Step) (reached :
   pub latest : time_at t (last_instant t) ≤ reached
   pub over : ((last_instant t == 0) || nat_lt (time_at t (group_start skew t (last_instant t)) + skew) reached) ≡ true
 
+-- the current group isn't known to be over (`true`), or the next step begins a group (`false`)
 abbrev pub IsAtGroup : ℕ → Trace → List Step → ℕ → Bool → GroupLevels → Type 0
 IsAtGroup skew t out reached true group = IsInGroup skew t out reached group
 IsAtGroup skew t out reached false group = IsBetweenGroups skew t out reached group

@@ -14,6 +14,7 @@ pub record WorkedGroups : Type 0 where
   pub skew : ℕ
   pub settled : List Step
 
+-- a recording of one slot that opens with all lines high
 abbrev pub from_high : List Step → Trace
 from_high steps = record { opening = record { slots = 1; levels = replicate line_count High }; steps = steps }
 
@@ -114,6 +115,7 @@ reset_and_loss_last = record {
 unfoldable pub nothing : WorkedGroups
 nothing = record { steps = []; skew = 3; settled = [] }
 
+-- all examples of groups
 abbrev pub worked : List WorkedGroups
 worked =
     just_within ∷ just_past ∷ by_nothing ∷ over_all ∷ greatest ∷ glitch ∷ ends_as_it_began ∷ reset_and_loss_within
@@ -185,6 +187,7 @@ over_without_step = record {
   complete = [];
 }
 
+-- all examples of times
 abbrev pub worked_times : List WorkedTime
 worked_times =
     later_by_the_skew ∷ later_by_more ∷ first_by_the_skew ∷ first_by_more ∷ reaches_none ∷ never_over

@@ -36,10 +36,12 @@ BeginsWithLine told =
 abbrev pub IsExplainedWhole : Explained → Type 0
 IsExplainedWhole told = BeginsWithLine told × IsPicture told.files.picture
 
+-- an explanation that was made is whole
 abbrev pub IsExplained : Result Explained Refusal → Type 0
 IsExplained (Ok told) = IsExplainedWhole told
 IsExplained (Err refusal) = Unit {0}
 
+-- the explanation with the status of its verdict, or a refusal with `more` after its line
 abbrev pub explained_answer_by : List ℕ → Result Explained Refusal → CommandAnswer
 explained_answer_by more (Ok told) = text_answer (verdict_status told.verdict) told.text
 explained_answer_by more (Err refusal) = refusal_with more refusal

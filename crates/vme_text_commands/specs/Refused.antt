@@ -16,6 +16,7 @@ abbrev pub IsRefusedText : Refusal → List ℕ → Type 0
 IsRefusedText refusal text = (shown : List ℕ)
     × (text ≡ line_of (refusal_text refusal) ++ shown ++ page_text (kind_of refusal))
 
+-- if nothing was made, `more` is what follows the line of the refusal
 abbrev pub HasRefusalPage : {A : Type 0} → Result A Refusal → List ℕ → Type 0
 HasRefusalPage made more = IfErr made (λ refusal. IsRefusalPage refusal more)
 

@@ -22,6 +22,7 @@ use Rattle.vme_faults.specs.declared.refusal_kind.RefusalKind.{RefusalKind}
 use Rattle.vme_rules.specs.Guides.{guides_text}
 use denote.Ref.{Bor}
 
+-- a text on standard output, and the status
 abbrev pub text_answer : ℕ → List ℕ → CommandAnswer
 text_answer status text = record { out = text; error = []; status = status }
 
@@ -65,6 +66,7 @@ abbrev pub missing_text : List ℕ → NoBinding → List ℕ
 missing_text more (Refused refusal) = line_of (refusal_text refusal) ++ more
 missing_text more NoSuchScope = line_of no_scope_text
 
+-- the exit status where there is no binding
 abbrev pub missing_status : NoBinding → ℕ
 missing_status (Refused refusal) = refusal_status refusal
 missing_status NoSuchScope = 3
@@ -80,6 +82,7 @@ abbrev pub IsPageOfMissing : NoBinding → List ℕ → Type 0
 IsPageOfMissing (Refused refusal) more = IsRefusalPage refusal more
 IsPageOfMissing NoSuchScope more = Unit {0}
 
+-- if there is no binding, `more` is what follows the line that says why
 abbrev pub HasPageOfMissing : Result FoundBinding NoBinding → List ℕ → Type 0
 HasPageOfMissing made more = IfErr made (λ missing. IsPageOfMissing missing more)
 
