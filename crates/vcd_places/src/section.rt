@@ -21,6 +21,7 @@ pub struct EndSection {
     pub end: usize,
 }
 
+/// Whether a token is `$end`.
 pub(crate) fn is_end(word: &[u8]) -> bool
     ensures { result ≡ is_end word.now }
 {

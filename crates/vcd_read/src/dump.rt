@@ -184,6 +184,7 @@ impl Model for Dump {
 }
 
 impl Dump {
+    /// The dump of these variables and these instants, whose times ascend.
     pub(crate) fn new(variables: Vec<Variable>, instants: Vec<Instant>) -> Dump
         requires { TimesAscend instants.items }
         ensures { result ≡ record { variables = variables.items; instants = instants.items } }

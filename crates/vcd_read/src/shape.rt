@@ -28,6 +28,7 @@ pub(crate) enum Shape<'a> {
     Unknown,
 }
 
+/// What a token of the body is, or begins.
 #[inline(always)]
 pub(crate) fn shape_of(token: &[u8]) -> Shape<'_>
     ensures { found_shape result ≡ shape_of token.now }
@@ -56,6 +57,7 @@ pub(crate) fn shape_of(token: &[u8]) -> Shape<'_>
     }
 }
 
+/// What a token is that begins with a dollar sign.
 fn keyword_shape(word: &[u8]) -> Shape<'_>
     ensures { found_shape result ≡ keyword_shape word.now }
 {
@@ -70,12 +72,14 @@ fn keyword_shape(word: &[u8]) -> Shape<'_>
     }
 }
 
+/// Whether a token is `$end`.
 pub(crate) fn is_end(word: &[u8]) -> bool
     ensures { result ≡ is_end word.now }
 {
     word == b"$end".as_slice()
 }
 
+/// Whether a token opens a dump section.
 fn opens_dump_section(word: &[u8]) -> bool
     ensures { result ≡ opens_dump_section word.now }
 {

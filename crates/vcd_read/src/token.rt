@@ -267,6 +267,7 @@ impl<'a> Reader<'a> {
         Some(&self.text.bytes[start + 1..end])
     }
 
+    /// Takes the next token, or returns `None` if there is none.
     #[inline(always)]
     pub fn next(&mut self) -> Option<Token<'a>>
         ensures text { self.new.text ≡ self.old.text }
@@ -297,6 +298,7 @@ impl<'a> Reader<'a> {
         }
     }
 
+    /// The fault of this kind on the line that something starts on.
     #[cold]
     #[inline(never)]
     pub fn fault(&self, start: Start, kind: FaultKind) -> VcdFault

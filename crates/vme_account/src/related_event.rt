@@ -56,12 +56,14 @@ fn shown_on(lines: &Lines, line: Line) -> Level
     }
 }
 
+/// Whether a line falls in a step between these levels.
 pub(crate) fn falls(before: &Lines, after: &Lines, line: Line) -> bool
     ensures { result ≡ happens_between before.now after.now (StepEvent.Falls line) }
 {
     shown_on(before, line).is_high() && shown_on(after, line).is_low()
 }
 
+/// Whether a line rises in a step between these levels.
 pub(crate) fn rises(before: &Lines, after: &Lines, line: Line) -> bool
     ensures { result ≡ happens_between before.now after.now (StepEvent.Rises line) }
 {

@@ -16,6 +16,7 @@ use Rattle.vme_board.specs.Words.{mask_of}
 abbrev pub SeatState : Type 0
 SeatState = Me (Option Block) View
 
+-- a step on the table of a board
 abbrev pub TableStep : Type 0
 TableStep = Step (Option Block)
 

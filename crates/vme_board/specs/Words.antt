@@ -30,12 +30,15 @@ mask_of n = 1 * 2 ^ (n % 64) % 2 ^ 64
 abbrev pub Homes : Type 0
 Homes = List (maybe.Option (Option Block))
 
+-- where there is a slot n, it has no block, and no bench has it checked out
 abbrev pub IsEmpty : Homes → ℕ → Type 0
 IsEmpty homes n = n < length homes → get_elem? homes n ≡ some (some None)
 
+-- slot n has the block b, and no bench has it checked out
 abbrev pub IsFilled : Homes → ℕ → Block → Type 0
 IsFilled homes n b = get_elem? homes n ≡ some (some (Some b))
 
+-- the board's invariant holds of these words, slots and views
 abbrev pub Reads : (ℕ → Option Block) → List ℕ → Homes → List View → Type 0
 Reads content words homes views =
     BoardInvariant (length homes) (bit_of 3 words) (bit_of 0 words) (bit_of 1 words) (bit_of 2 words) content

@@ -112,6 +112,7 @@ pub struct Bench {
 impl Bench {
     ghost use Rattle.vme_board.specs.Benches.{view_of, IsOf, total_of, draws_of};
 
+    /// The bench of a seat that has done nothing yet.
     pub(crate) fn first(seat: BoardSeat) -> Bench
         requires { seat.me ≡ (first_view, []) }
         ensures { result.seat ≡ seat }

@@ -21,7 +21,7 @@ use vme_summary::Judged;
 
 pub(crate) type BoardSeat = Seat<Option<Judged>, View>;
 
-// The rule of the table. Its key is the number of words.
+/// The rule of the table. Its key is the number of words.
 pub(crate) struct BoardRule;
 
 impl TableRule<Option<Judged>, View, usize> for BoardRule {

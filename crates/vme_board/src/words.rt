@@ -4,13 +4,18 @@ ghost use Rattle.std.specs.Int.{bit_at};
 ghost use Rattle.std.specs.Prelude.{◌≡◌, ◌+◌, ◌*◌, ◌/◌, ◌%◌, ◌<◌};
 ghost use Rattle.vme_board.specs.Words.{mask_of};
 
-// The rows k. Word 4 g + k has the bits, of the row k, of the 64 numbers or draws from 64 g on.
+// Word 4 g + k of a board has the bits, of row k, of the 64 numbers or draws from 64 g on.
+
+/// The row of the numbers that are claimed.
 pub(crate) const CLAIMED: usize = 0;
 
+/// The row of the numbers that are filed.
 pub(crate) const FILED: usize = 1;
 
+/// The row of the numbers that are taken.
 pub(crate) const TAKEN: usize = 2;
 
+/// The row of the draws that are won.
 pub(crate) const DRAWN: usize = 3;
 
 /// The index of the word that has the bit of a number in a row.

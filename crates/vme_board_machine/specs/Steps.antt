@@ -15,6 +15,7 @@ use Rattle.vme_board.specs.Words.{bit_of, mask_of}
 use Rattle.vme_board.specs.Postconditions.{SeatState, TableStep, DrawPost, ClaimPost, FilePost, TakePost, GivePost}
 use Rattle.vme_board.specs.Postconditions.{ClaimedLookPost, FiledLookPost, TakenLookPost, CountPost}
 
+-- the state of the table of a board
 abbrev pub TableState : Type 0
 TableState = State (Option Block) View
 
@@ -82,6 +83,7 @@ number_of claimed_row = 0
 number_of filed_row = 1
 number_of taken_row = 2
 
+-- the postcondition of a look at a bit of this row
 abbrev pub LookPost : WordRow → Postcondition
 LookPost claimed_row = ClaimedLookPost
 LookPost filed_row = FiledLookPost

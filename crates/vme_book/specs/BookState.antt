@@ -108,5 +108,6 @@ pub record Keeps (p : BookSlots) (progress : Option RunningVerdict) (n : ℕ) (s
   pub joined : AreJoinedTo p.blocks.items start xs
   pub within : start.count ≤ n
 
+-- the book keeps all this for some blocks
 abbrev pub IsBookState : BookSlots → Option RunningVerdict → ℕ → JoinedPrefix → Type 0
 IsBookState p progress n start = (bs : List Block) × (xs : List Block) × Keeps p progress n start bs xs

@@ -65,6 +65,7 @@ module _ {Whole Source : Type 0} (gave : Whole → Source → List Row → Type 
     pub all : AreRemainingRows t done (Verdict outcome ∷ [])
     pub rows_are : CanClose gave is_over whole version done rows
 
+  -- the checker is in this phase at instant `n`
   abbrev pub IsPhase : ℕ → ListedVerdict → OpenRows Source → CheckPhase → Type 0
   IsPhase n outcome rows Waiting = IsWaiting n outcome rows
   IsPhase n outcome rows (InStretch state) = IsInStretch n outcome rows state

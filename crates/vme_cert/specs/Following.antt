@@ -37,6 +37,7 @@ pub record IsTaken (given : List Row) (taken : ℕ) (row : OpenRow) : Type 0 whe
   pub below : row.place < taken
   pub given_is : row.given ≡ slice_get given row.place
 
+-- an open row is one of the first `taken` rows, and has what `given` has at its place
 abbrev pub IsTakenAt : List Row → ℕ → Option OpenRow → Type 0
 IsTakenAt given taken None = Unit {0}
 IsTakenAt given taken (Some row) = IsTaken given taken row
@@ -78,6 +79,7 @@ module _ (version : Version) (done : List Row) (t : Trace) (stretch : Stretch) w
     pub is_low : low t l (j - 1) ≡ true
     pub expected : IsExpected (start + 1) row.place (λ end. with_edge row.expected (least (rises t l) (start + 1) end))
 
+  -- an open row, if there is one, ends where line `l` rises, which it hasn't done before instant `j`
   abbrev pub IsOpenAt : ℕ → ℕ → Option OpenRow → Type 0
   IsOpenAt l j None = Unit {0}
   IsOpenAt l j (Some row) = IsOpen l j row
@@ -95,6 +97,7 @@ module _ (version : Version) (done : List Row) (t : Trace) (stretch : Stretch) w
         ≡ with_edge (row_in version (transfer_row t stretch end start (least (answers t stretch start) start answered)))
         edge
 
+  -- an open row, if there is one, is that of the last transfer to start before `opened`
   abbrev pub IsTransferAt : ℕ → ℕ → ℕ → Option OpenRow → Type 0
   IsTransferAt opened answered closed None = Unit {0}
   IsTransferAt opened answered closed (Some row) = IsTransferRow opened answered closed row

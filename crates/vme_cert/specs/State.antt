@@ -73,6 +73,7 @@ module _ (t : Trace) (stretch : Stretch) where
   abbrev pub is_requested : ℕ → ℕ → Bool
   is_requested n j = any (low t (BR n)) (last_before t stretch (grant_falls t) j) j
 
+  -- the four flags say which levels were requested
   abbrev pub AreRequested : ℕ → List Bool → Type 0
   AreRequested j levels = (n : ℕ) → n < 4 → get_or levels n false ≡ is_requested n j
 
@@ -80,6 +81,7 @@ module _ (t : Trace) (stretch : Stretch) where
   abbrev pub is_granted : ℕ → Bool
   is_granted j = any (grant_falls t) (last_before t stretch (falls t BBSY) j + 1) j
 
+  -- the state is right before instant `j`
   pub record Holds (opened j : ℕ) (state : State) : Type 0 where
     pub cycle : IsCycle opened j state.cycle
     pub transfer : IsTransfer opened j state.transfer

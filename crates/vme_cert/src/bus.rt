@@ -59,6 +59,7 @@ impl Bus {
 impl Bus {
     ghost use Rattle.vme_cert.specs.Instant.{IsBusOf, starts_transfer};
 
+    /// Whether a line is low at the instant before.
     pub(crate) fn was_low(&self, line: Line) -> bool
         requires { IsTrue (has_line self.now.levels.slots line) }
         ensures { (t : Trace) → IsBusOf t self.now → result ≡ low t line (self.now.instant - 1) }
@@ -66,6 +67,7 @@ impl Bus {
         self.before.level(line).is_low()
     }
 
+    /// Whether a line is low.
     pub(crate) fn low(&self, line: Line) -> bool
         requires { IsTrue (has_line self.now.levels.slots line) }
         ensures { (t : Trace) → IsBusOf t self.now → result ≡ low t line self.now.instant }
@@ -73,6 +75,7 @@ impl Bus {
         self.levels.level(line).is_low()
     }
 
+    /// Whether a line is known, i.e. low or high.
     pub(crate) fn knows(&self, line: Line) -> bool
         requires { IsTrue (has_line self.now.levels.slots line) }
         ensures { (t : Trace) → IsBusOf t self.now → result ≡ known t line self.now.instant }
@@ -80,6 +83,7 @@ impl Bus {
         self.levels.level(line).is_known()
     }
 
+    /// Whether a line falls: it is high at the instant before, and low.
     pub(crate) fn falls(&self, line: Line) -> bool
         requires { IsTrue (has_line self.now.levels.slots line) }
         ensures { (t : Trace) → IsBusOf t self.now → result ≡ falls t line self.now.instant }
@@ -87,6 +91,7 @@ impl Bus {
         edges::falls(&self.before, &self.levels, line)
     }
 
+    /// Whether a line rises: it is low at the instant before, and high.
     pub(crate) fn rises(&self, line: Line) -> bool
         requires { IsTrue (has_line self.now.levels.slots line) }
         ensures { (t : Trace) → IsBusOf t self.now → result ≡ rises t line self.now.instant }
@@ -94,6 +99,7 @@ impl Bus {
         edges::rises(&self.before, &self.levels, line)
     }
 
+    /// Whether the level of a line differs from that at the instant before.
     pub(crate) fn has_edge(&self, line: Line) -> bool
         requires { IsTrue (has_line self.now.levels.slots line) }
         ensures { (t : Trace) → IsBusOf t self.now → result ≡ has_edge t line self.now.instant }
@@ -101,6 +107,7 @@ impl Bus {
         !self.before.level(line).is_same(self.levels.level(line))
     }
 
+    /// Whether a line is low at the instant before or at this one.
     pub(crate) fn low_near(&self, line: Line) -> bool
         requires { IsTrue (has_line self.now.levels.slots line) }
         ensures { (t : Trace) → IsBusOf t self.now → result ≡ near (low t line) self.now.instant }
@@ -108,6 +115,7 @@ impl Bus {
         self.was_low(line) | self.low(line)
     }
 
+    /// Whether a line is high at the instant before or at this one.
     pub(crate) fn high_near(&self, line: Line) -> bool
         requires { IsTrue (has_line self.now.levels.slots line) }
         ensures { (t : Trace) → IsBusOf t self.now → result ≡ near (high t line) self.now.instant }
@@ -115,24 +123,28 @@ impl Bus {
         self.before.level(line).is_high() | self.levels.level(line).is_high()
     }
 
+    /// Whether a data strobe rises.
     pub(crate) fn strobe_rises(&self) -> bool
         ensures { (t : Trace) → IsBusOf t self.now → result ≡ strobe_rises t self.now.instant }
     {
         edges::strobe_rises(&self.before, &self.levels)
     }
 
+    /// Whether a data strobe falls.
     pub(crate) fn strobe_falls(&self) -> bool
         ensures { (t : Trace) → IsBusOf t self.now → result ≡ strobe_falls t self.now.instant }
     {
         edges::strobe_falls(&self.before, &self.levels)
     }
 
+    /// Whether both data strobes are high.
     pub(crate) fn strobes_high(&self) -> bool
         ensures { (t : Trace) → IsBusOf t self.now → result ≡ strobes_high t self.now.instant }
     {
         edges::has_strobes_high(&self.levels)
     }
 
+    /// Whether DTACK* or BERR* falls.
     pub(crate) fn answer_falls(&self) -> bool
         ensures { (t : Trace) → IsBusOf t self.now → result ≡ answer_falls t self.now.instant }
     {
@@ -146,6 +158,7 @@ impl Bus {
         edges::starts_transfer(&self.before, &self.levels)
     }
 
+    /// Whether the bus is requested at a level, 0 to 3.
     pub(crate) fn requests(&self, level: u8) -> bool
         requires { level < 4 }
         ensures { (t : Trace) → IsBusOf t self.now → result ≡ low t (BR level) self.now.instant }
@@ -153,6 +166,7 @@ impl Bus {
         self.low(Line::bus_request(level))
     }
 
+    /// Whether the arbiter grants the bus: its net of a level falls.
     #[tactic(auto, unfolding(vme_trace::specs::Instants::any, vme_trace::specs::Tenures::grant_falls))]
     pub(crate) fn grant_falls(&self) -> bool
         ensures { (t : Trace) → IsBusOf t self.now → result ≡ grant_falls t self.now.instant }
@@ -163,6 +177,7 @@ impl Bus {
             | self.falls(Line::grant(3, 0))
     }
 
+    /// Whether the arbiter's net of a level is low.
     #[tactic(auto, unfolding(vme_trace::specs::Instants::any, vme_trace::specs::Tenures::is_granting))]
     fn is_granting(&self) -> bool
         ensures { (t : Trace) → IsBusOf t self.now → result ≡ is_granting t self.now.instant }

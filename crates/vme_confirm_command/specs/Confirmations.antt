@@ -93,14 +93,17 @@ IsConfirmation skew (Ok bound) (Ok contents) text found =
 
 -- ---- the answer
 
+-- the text of a comparison's result
 abbrev pub confirmation_text : Confirmation → List ℕ
 confirmation_text Yes = codes "confirmed"
 confirmation_text (No row) = codes "not confirmed at row " ++ decimal row
 
+-- the exit status of a comparison's result
 abbrev pub confirmation_status : Confirmation → ℕ
 confirmation_status Yes = 0
 confirmation_status (No row) = 1
 
+-- the answer by the result of a comparison, or to a refusal
 abbrev pub confirmation_answer_by : Result Confirmation Refusal → CommandAnswer
 confirmation_answer_by (Ok found) =
     record { out = line_of (confirmation_text found); error = []; status = confirmation_status found }

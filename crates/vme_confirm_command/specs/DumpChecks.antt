@@ -34,6 +34,7 @@ module _ {Whole Source : Type 0} (gave : Whole → Source → List Row → Type 
   IsAnswerForDump contents (Err fault) source =
       (capture_of binding contents ≡ Err fault) × ((rows : List Row) × gave whole source rows)
 
+  -- the dump is read and the listing compared, or the dump is refused; `source` is the source of rows afterwards
   abbrev pub Compares : Reading → Reading → Result (Result Answer BindFault) Refusal → Source → Type 0
   Compares old now (Ok found) source =
       (contents : Contents) × IsReadDump old now contents × IsAnswerForDump contents found source

@@ -59,6 +59,7 @@ pub record ShareInvariant (views : List View) : Type 0 where
   pub whole : sum_by (λ v. weight k v.share) views ≡ 2 ^ k
   pub no_share_has_nothing : (i : ℕ) (v : View) → get_elem? views i ≡ some v → v.share ≡ [] → HasNothing v
 
+-- the invariant of a board, by the bits and slots of its table and the views of its benches
 pub record BoardInvariant (limit : ℕ) (drawn claimed filed taken : ℕ → ℕ) (content : ℕ → Option Block)
     (IsEmpty : ℕ → Type 0) (IsFilled : ℕ → Block → Type 0) (views : List View) : Type 0 where
   pub draws : DrawInvariant drawn views

@@ -32,6 +32,7 @@ pub record HasDoneAll (s : Core) (v : View) : Type 0 where
   pub taken : (n : ℕ) → taken_bit (s.stage n) ≡ occurrences n (numbers v.takes)
   pub claimed : (n : ℕ) → claimed_bit (s.stage n) ≡ owned n v
 
+-- the law of the state: each number has at most one owner, and is filed and taken at most once
 pub record IsLawful (s : Core) : Type 0 where
   pub one_owner : (n : ℕ) → sum_by (λ v. owned n v) s.views ≡ claimed_bit (s.stage n)
   pub filed_once : (n : ℕ) → sum_by (λ v. occurrences n (numbers v.list)) s.views ≡ filed_bit (s.stage n)

@@ -62,6 +62,7 @@ pub data BoardEvent : Type 0 where
   -- a load that changes nothing
   load : ℕ → BoardEvent
 
+-- the state before any event
 abbrev pub start : Core
 start = record {
   stage = λ _. Free;
@@ -76,6 +77,7 @@ start = record {
 abbrev pub HasView : Core → ℕ → View → Type 0
 HasView s i v = get_elem? s.views i ≡ some v
 
+-- the state with other views
 abbrev pub with_views : Core → List View → Core
 with_views s vs = record s { views = vs }
 

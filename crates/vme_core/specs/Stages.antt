@@ -5,6 +5,7 @@ use Rattle.vme_core.specs.declared.stage.Stage.TheVariants.{Free, Claimed, Filed
 use Rattle.vme_core.specs.declared.view.View.{View}
 use Rattle.vme_core.specs.Counting.{occurrences}
 
+-- the place of a stage in their order
 abbrev pub rank : Stage → ℕ
 rank Free = 0
 rank Claimed = 1

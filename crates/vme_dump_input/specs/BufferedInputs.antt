@@ -24,6 +24,7 @@ pub record IsRoomFor (limit room : ℕ) : Type 0 where
   pub few : limit ≤ 65536 * room
   pub small : room ≤ 4194304
 
+-- an input of which nothing is read yet
 abbrev pub not_read : ℕ → ℕ → InputSoFar
 not_read limit room =
     record { held = []; limit = limit; room = room; read = 0; reads = 0; is_whole = false }

@@ -69,10 +69,12 @@ pub record IsBodyUnread (r : StepReading) : Type 0 where
   pub none : r.given.steps ≡ []
   pub formed : (rest : List ℕ) → malformed_step (whole_reading r rest).recorded ≡ None
 
+-- the body of the dump isn't read yet, or the binding can't be used on the dump
 abbrev pub MayBeRead : DumpAfterDefinitions → Type 0
 MayBeRead (Body r count) = IsBodyUnread r
 MayBeRead (Unusable fault) = Unit {0}
 
+-- `MayBeRead` of the dump, if its definitions were read
 abbrev pub MayBeReadIfSome : Option DumpAfterDefinitions → Type 0
 MayBeReadIfSome None = Unit {0}
 MayBeReadIfSome (Some begun) = MayBeRead begun
@@ -82,6 +84,7 @@ abbrev pub HoldsDefinitions : InputSoFar → DumpAfterDefinitions → Type 0
 HoldsDefinitions input (Body r count) = count ≤ length input.held
 HoldsDefinitions input (Unusable fault) = Unit {0}
 
+-- the bytes of the definitions are held, if they were read
 abbrev pub HoldsDefinitionsIfSome : InputSoFar → Option DumpAfterDefinitions → Type 0
 HoldsDefinitionsIfSome input None = Unit {0}
 HoldsDefinitionsIfSome input (Some begun) = HoldsDefinitions input begun

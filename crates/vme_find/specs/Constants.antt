@@ -6,10 +6,12 @@ use Rattle.vme_bind.specs.declared.assignment.Assignment.{Assignment}
 use Rattle.vme_bind.specs.declared.source.LevelSource.{LevelSource}
 use Rattle.vme_bind.specs.declared.source.LevelSource.TheVariants.{Constant, Variable as Named}
 
+-- the source is a constant level
 abbrev pub is_constant_source : LevelSource → Bool
 is_constant_source (Constant level) = true
 is_constant_source (Named named) = false
 
+-- the assignment binds its lines to a constant level
 abbrev pub is_constant : Assignment → Bool
 is_constant a = is_constant_source a.source
 

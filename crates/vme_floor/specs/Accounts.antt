@@ -13,6 +13,7 @@ use Rattle.vme_floor.specs.declared.answer.Answer.{Answer}
 use Rattle.vme_floor.specs.declared.answer.Reply.{Reply}
 use Rattle.vme_floor.specs.declared.collector.Collection.{Collection}
 
+-- the reply with the answer `a` to the delivery with the index d
 abbrev pub reply_of : ℕ → Answer → Reply
 reply_of d a = record { delivery = d; answer = a }
 

@@ -6,6 +6,7 @@ use Rattle.vme_trace.specs.declared.block.Block.{Block}
 use Rattle.vme_floor.specs.declared.answer.Answer.{Answer}
 use Rattle.vme_floor.specs.declared.answer.Answer.TheVariants.{Filed, Stranger, TooLong, Malformed, Doubled, Memory}
 
+-- the refusal of a block by its first malformed step, if it has one
 abbrev pub malformed_refusal : Option ℕ → Option Answer
 malformed_refusal None = None
 malformed_refusal (Some step) = Some (Malformed step)

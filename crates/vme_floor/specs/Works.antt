@@ -16,6 +16,7 @@ use Rattle.vme_floor.specs.declared.answer.Answer.TheVariants.{Filed, Stranger, 
 use Rattle.vme_floor.specs.declared.answer.Reply.{Reply}
 use Rattle.vme_floor.specs.declared.worker.Work.{Work}
 
+-- the number of the block, or 0 if there is none
 abbrev pub number_in : Option Block → ℕ
 number_in None = 0
 number_in (Some b) = b.number
@@ -86,6 +87,7 @@ pub record IsNew (board : Board) (deliveries : List Block) (bench : Bench) : Typ
   pub no_takes : (view_of bench).takes ≡ []
   pub no_draws : (view_of bench).draws ≡ []
 
+-- the work of a worker of this board on these deliveries
 pub record IsWorkOf (board : Board) (deliveries : List Block) (work : Work) : Type 0 where
   pub of : IsOf work.bench board
   pub draws : draws_of board ≡ length deliveries

@@ -51,6 +51,7 @@ impl Model for RowBuffer {
 }
 
 impl RowBuffer {
+    /// An empty buffer.
     pub(crate) fn new() -> RowBuffer
         ensures { result ≡ [] }
     {
@@ -60,12 +61,14 @@ impl RowBuffer {
         }
     }
 
+    /// The text in the buffer.
     pub(crate) fn as_bytes(&self) -> &[u8]
         ensures { result.now ≡ self.now }
     {
         &self.bytes[..self.len]
     }
 
+    /// Empties the buffer.
     pub(crate) fn clear(&mut self)
         ensures { self.new ≡ [] }
     {
@@ -79,6 +82,7 @@ impl RowBuffer {
         self.len + LONGEST_LINE < MOST
     }
 
+    /// Appends a byte.
     fn push(&mut self, byte: u8)
         requires { length self.old < MOST }
         ensures text { self.new ≡ self.old ++ byte ∷ [] }
@@ -88,6 +92,7 @@ impl RowBuffer {
         self.len += 1;
     }
 
+    /// Appends a text.
     pub(crate) fn extend(&mut self, text: &[u8])
         requires { length self.old + length text.now ≤ MOST }
         ensures text { self.new ≡ self.old ++ text.now }

@@ -15,6 +15,7 @@ escaped_byte b =
     else if b == 34 then codes "&quot;"
     else hex_escaped_byte b
 
+-- bytes as characters of markup
 abbrev pub escaped : List ℕ → List ℕ
 escaped bytes = flat_map escaped_byte bytes
 
@@ -64,6 +65,7 @@ pub data MarkupTree : Type 0 where
   end_of_line : MarkupTree → MarkupTree
   element : Tag → List (Attribute × List ℕ) → MarkupTree → MarkupTree → MarkupTree
 
+-- the bytes of markup
 unfoldable pub markup_text : MarkupTree → List ℕ
 markup_text nothing = []
 markup_text (characters bytes rest) = escaped bytes ++ markup_text rest

@@ -31,16 +31,19 @@ IsPassing Stray = ⊥
 
 -- ---- the answer
 
+-- the text where nothing was judged
 abbrev pub unjudged_text : Unjudged → List ℕ
 unjudged_text (Refused refusal) = refusal_text refusal
 unjudged_text NoWorker = codes "vmecheck: cannot start a worker"
 unjudged_text Stray = codes "vmecheck: stray block"
 
+-- the exit status where nothing was judged
 abbrev pub unjudged_status : Unjudged → ℕ
 unjudged_status (Refused refusal) = refusal_status refusal
 unjudged_status NoWorker = 4
 unjudged_status Stray = 4
 
+-- the answer by the verdict, or by why nothing was judged
 abbrev pub pods_answer_by : Result Verdict Unjudged → CommandAnswer
 pods_answer_by (Ok verdict) = answer_by (Ok verdict)
 pods_answer_by (Err unjudged) =

@@ -30,6 +30,7 @@ pub record Interval : Type 0 where
   pub start : ℕ
   pub end : Option ℕ
 
+-- the interval with this start and end
 abbrev pub interval : ℕ → Option ℕ → Interval
 interval start end = record { start = start; end = end }
 
@@ -57,14 +58,16 @@ abbrev pub dtack_in : Row → List ℕ
 dtack_in (Transfer direction Dtack start cycle answer close lanes) = answer ∷ []
 dtack_in other = []
 
+-- the instant at which BERR answers the transfer of a row, if it does
 abbrev pub berr_in : Row → List ℕ
 berr_in (Transfer direction Berr start cycle answer close lanes) = answer ∷ []
 berr_in other = []
 
--- the instants at which the intervals start; below, those at which they end
+-- the instants at which the intervals start
 abbrev pub starts_of : List Interval → List ℕ
 starts_of intervals = map (λ a. a.start) intervals
 
+-- the instants at which the intervals end, if they do
 abbrev pub ends_of : List Interval → List ℕ
 ends_of intervals = flat_map (λ a. option_to_list a.end) intervals
 
@@ -339,14 +342,16 @@ pub record AnsweredTransfer : Type 0 where
   pub cycle : ℕ
   pub answer : ℕ
 
+-- the transfer with these instants of its start, of its cycle's start and of its answer
 abbrev pub answered_transfer : ℕ → ℕ → ℕ → AnsweredTransfer
 answered_transfer start cycle answer = record { start = start; cycle = cycle; answer = answer }
 
--- the transfer of a row that DTACK answers, if it is of one; below, one that BERR answers
+-- the transfer of a row that DTACK answers, if it is of one
 abbrev pub answered_by_dtack : Row → List AnsweredTransfer
 answered_by_dtack (Transfer direction Dtack start cycle answer close lanes) = answered_transfer start cycle answer ∷ []
 answered_by_dtack other = []
 
+-- the transfer of a row that BERR answers, if it is of one
 abbrev pub answered_by_berr : Row → List AnsweredTransfer
 answered_by_berr (Transfer direction Berr start cycle answer close lanes) = answered_transfer start cycle answer ∷ []
 answered_by_berr other = []

@@ -17,16 +17,19 @@ as_broken category.Broken = 1
 as_broken category.Unreadable = 0
 as_broken category.Allowed = 0
 
+-- 1 for the category `Unreadable`, else 0
 abbrev pub as_unreadable : BreakCategory → ℕ
 as_unreadable category.Broken = 0
 as_unreadable category.Unreadable = 1
 as_unreadable category.Allowed = 0
 
+-- 1 for the category `Allowed`, else 0
 abbrev pub as_allowed : BreakCategory → ℕ
 as_allowed category.Broken = 0
 as_allowed category.Unreadable = 0
 as_allowed category.Allowed = 1
 
+-- the counts with one more break of this category
 abbrev pub with_category : BreakCounts → BreakCategory → BreakCounts
 with_category c s =
     record {
@@ -35,9 +38,10 @@ with_category c s =
       allowed = c.allowed + as_allowed s;
     }
 
--- the number of all counted breaks, and of those that aren't allowed
+-- the number of all counted breaks
 abbrev pub all_counted : BreakCounts → ℕ
 all_counted c = c.broken + c.unreadable + c.allowed
 
+-- the number of counted breaks that aren't allowed
 abbrev pub faults_counted : BreakCounts → ℕ
 faults_counted c = c.broken + c.unreadable

@@ -31,6 +31,7 @@ pub(crate) struct NamedInput<'a> {
 }
 
 impl<'a> NamedInput<'a> {
+    /// An input with this name and these bytes.
     pub(crate) fn new(name: &'a [u8], bytes: &'a [u8]) -> NamedInput<'a> {
         NamedInput { name, bytes }
     }

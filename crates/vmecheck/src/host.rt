@@ -38,6 +38,7 @@ pub(crate) struct Host<'a> {
 }
 
 impl<'a> Host<'a> {
+    /// The files and the standard input that `rt` gives.
     pub(crate) fn new(rt: &'a HostRuntime) -> Host<'a> {
         Host { rt }
     }
