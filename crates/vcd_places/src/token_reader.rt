@@ -24,6 +24,7 @@ pub(crate) struct TokenReader<'a> {
     ghost boundary: { is_token_boundary text.now at ≡ true },
 }
 
+/// Whether a byte is white space.
 fn is_space(b: u8) -> bool
     ensures { result ≡ is_space b }
 {

@@ -59,6 +59,7 @@ struct VarSection<'w> {
     reference: &'w [&'w [u8]],
 }
 
+/// Whether each byte may be in an identifier code: `!` to `~`.
 fn is_code(word: &[u8]) -> bool
     ensures { result ≡ is_code word.now }
 {
@@ -72,6 +73,7 @@ fn opens_section(word: &[u8]) -> bool
     matches!(word, [b'$', ..]) && !is_end(word)
 }
 
+/// What the first token of a section opens.
 fn opening_of(word: &[u8]) -> Opening
     ensures { result ≡ opening_of word.now }
 {
@@ -214,6 +216,7 @@ fn declare_on<D: DeclarationVisitor>(
 }
 
 impl<D: DeclarationVisitor> Definitions<D> {
+    /// Nothing is declared yet. It fails if memory runs out.
     fn new(alloc: Global, declarations: D) -> Result<Definitions<D>, AllocError>
         requires { D.scopes declarations ≡ [] }
         ensures { IfOk result (λ d. declared_in (D.scopes d.declarations) d.codes (D.taken d.declarations)

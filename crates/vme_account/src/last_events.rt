@@ -108,6 +108,8 @@ impl LastEvents {
         }
     }
 
+    /// Notes the start of a transfer, an answer, the start of a cycle and an answer by DTACK, each if it happens at
+    /// `moment`.
     fn take_handshake(
         &mut self,
         starts: bool,
@@ -152,12 +154,14 @@ impl LastEvents {
         }
     }
 
+    /// The last fall of a line.
     fn fall(&self, line: Line) -> Option<Moment>
         ensures { result ≡ slice_index_or self.now.falls line None }
     {
         self.falls[usize::from(line.number())]
     }
 
+    /// The last rise of a line.
     fn rise(&self, line: Line) -> Option<Moment>
         ensures { result ≡ slice_index_or self.now.rises line None }
     {
@@ -181,6 +185,7 @@ impl LastEvents {
         }
     }
 
+    /// Notes the lines that fall.
     fn note_falls(&mut self, before: &Lines, after: &Lines, changes: &[Change], moment: Moment)
         ensures { self.new ≡ record self.old {
           falls = noted (falls_shown before.now after.now) moment self.old.falls changes.now;
@@ -193,6 +198,7 @@ impl LastEvents {
         }
     }
 
+    /// Notes the lines that rise.
     fn note_rises(&mut self, before: &Lines, after: &Lines, changes: &[Change], moment: Moment)
         ensures { self.new ≡ record self.old {
           rises = noted (rises_shown before.now after.now) moment self.old.rises changes.now;
@@ -225,6 +231,7 @@ fn later(one: Option<Moment>, other: Option<Moment>) -> Option<Moment>
     }
 }
 
+/// `moment` if the event happens now, else when it happened before.
 #[inline(always)]
 fn now_or(is_now: bool, moment: Moment, before: Option<Moment>) -> Option<Moment>
     ensures { result ≡ now_or is_now moment before }
@@ -232,6 +239,7 @@ fn now_or(is_now: bool, moment: Moment, before: Option<Moment>) -> Option<Moment
     if is_now { Some(moment) } else { before }
 }
 
+/// `before`, or `None` if what it belongs to is over.
 #[inline(always)]
 fn unless(is_over: bool, before: Option<Moment>) -> Option<Moment>
     ensures { result ≡ unless is_over before }
@@ -239,6 +247,7 @@ fn unless(is_over: bool, before: Option<Moment>) -> Option<Moment>
     if is_over { None } else { before }
 }
 
+/// When the event happened first: before, or now.
 #[inline(always)]
 fn first_or(is_now: bool, moment: Moment, before: Option<Moment>) -> Option<Moment>
     ensures { result ≡ first_or is_now moment before }

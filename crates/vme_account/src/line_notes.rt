@@ -87,6 +87,7 @@ impl LineFlags {
         idle
     }
 
+    /// Inserts a line.
     fn insert(&mut self, line: Line) {
         self.lines[usize::from(line.number())] = true;
     }

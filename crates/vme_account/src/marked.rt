@@ -86,6 +86,7 @@ impl Marked {
         self.take_kinds(instant, shown)
     }
 
+    /// Takes the marks of a step. The only error is want of memory.
     #[inline(never)]
     fn take_kinds(&mut self, instant: u32, shown: &StepMarks) -> Result<(), AllocError>
         ensures { OnOk result (self.new
@@ -103,6 +104,7 @@ impl Marked {
         self.take_kind(instant, kind_if(shown.close, MarkKind::Close))
     }
 
+    /// Takes a mark of this kind, if there is one. The only error is want of memory.
     #[inline(always)]
     fn take_kind(&mut self, instant: u32, kind: Option<MarkKind>) -> Result<(), AllocError>
         ensures { OnOk result (self.new
@@ -144,6 +146,7 @@ impl Marked {
     }
 }
 
+/// The kind, if it is shown.
 #[inline(always)]
 fn kind_if(is_shown: bool, kind: MarkKind) -> Option<MarkKind>
     ensures { result ≡ when is_shown kind }
@@ -151,6 +154,7 @@ fn kind_if(is_shown: bool, kind: MarkKind) -> Option<MarkKind>
     if is_shown { Some(kind) } else { None }
 }
 
+/// The mark of a tenure that starts, if one does.
 #[inline(always)]
 fn granted_tenure(shown: Option<BusGrant>) -> Option<MarkKind>
     ensures { result ≡ option_map tenure_kind shown }
@@ -164,6 +168,7 @@ fn granted_tenure(shown: Option<BusGrant>) -> Option<MarkKind>
     }
 }
 
+/// The mark of a cycle that starts, if one does.
 #[inline(always)]
 fn started_cycle(shown: Option<CycleStart>) -> Option<MarkKind>
     ensures { result ≡ option_map cycle_kind shown }
@@ -178,6 +183,7 @@ fn started_cycle(shown: Option<CycleStart>) -> Option<MarkKind>
     }
 }
 
+/// The mark of a transfer that starts, if one does.
 #[inline(always)]
 fn started_transfer(shown: Option<bool>) -> Option<MarkKind>
     ensures { result ≡ option_map Transfer shown }
@@ -188,6 +194,7 @@ fn started_transfer(shown: Option<bool>) -> Option<MarkKind>
     }
 }
 
+/// The mark of an answer, if there is one.
 #[inline(always)]
 fn given_answer(shown: Option<TransferAnswer>) -> Option<MarkKind>
     ensures { result ≡ option_map answered_kind shown }
@@ -198,6 +205,7 @@ fn given_answer(shown: Option<TransferAnswer>) -> Option<MarkKind>
     }
 }
 
+/// The mark of an answer.
 #[inline(always)]
 fn answer_as_kind(answer: &TransferAnswer) -> MarkKind
     ensures { result ≡ answered_kind answer.now }

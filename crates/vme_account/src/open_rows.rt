@@ -38,6 +38,7 @@ pub struct UnendedRows {
     latest: Option<u32>,
 }
 
+/// The row of the waiting transfer, if there is one.
 fn pending(waiting: &Option<Waiting>) -> Option<Row>
     ensures { result ≡ pending waiting.now }
 {
@@ -50,6 +51,7 @@ fn pending(waiting: &Option<Waiting>) -> Option<Row>
     }
 }
 
+/// `other`, or `None` if a transfer waits.
 fn unless_left(waiting: &Option<Waiting>, other: Option<Row>) -> Option<Row>
     ensures { result ≡ unless_left waiting.now other }
 {
@@ -170,6 +172,7 @@ impl UnendedRows {
         self.latest
     }
 
+    /// The row of the last open transfer, if there is one.
     fn transfer(&self) -> Option<Row>
         ensures { result ≡ open_in self.now Part.Transfer }
     {
@@ -236,6 +239,7 @@ fn closed(instant: u32, waiting: Option<Waiting>) -> Option<Waiting>
     Some(waiting)
 }
 
+/// The direction of a transfer, by whether it is a write.
 fn direction_of(write: bool) -> Direction
     ensures { result ≡ marked_direction write }
 {

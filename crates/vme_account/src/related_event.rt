@@ -70,6 +70,7 @@ pub(crate) fn rises(before: &Lines, after: &Lines, line: Line) -> bool
     shown_on(before, line).is_low() && shown_on(after, line).is_high()
 }
 
+/// The last occurrence of an event.
 fn last(event: StepEvent) -> Option<RelatedEvent>
     ensures { result ≡ Some (record { event = event; occurrence = Occurrence.Last }) }
 {
@@ -79,6 +80,7 @@ fn last(event: StepEvent) -> Option<RelatedEvent>
     })
 }
 
+/// The last occurrence of an event, or the one at the break.
 fn last_or_now(event: StepEvent) -> Option<RelatedEvent>
     ensures { result ≡ Some (record { event = event; occurrence = Occurrence.LastOrNow }) }
 {
@@ -88,6 +90,7 @@ fn last_or_now(event: StepEvent) -> Option<RelatedEvent>
     })
 }
 
+/// The first answer in the transfer.
 fn first_in_transfer() -> Option<RelatedEvent>
     ensures { result ≡ Some (record { event = StepEvent.AnswerFalls; occurrence = Occurrence.FirstInTransfer }) }
 {
@@ -97,6 +100,7 @@ fn first_in_transfer() -> Option<RelatedEvent>
     })
 }
 
+/// The first occurrence of an event in the cycle.
 fn first_in_cycle(event: StepEvent) -> Option<RelatedEvent>
     ensures { result ≡ Some (record { event = event; occurrence = Occurrence.FirstInCycle }) }
 {

@@ -127,6 +127,7 @@ impl AskedEvents {
         self.take_nets(before, after, changes);
     }
 
+    /// Notes the start and the end of a cycle and the start of a transfer.
     fn take_cycle(&mut self, before: &Lines, after: &Lines, shown: &StepMarks)
         ensures { self.new ≡ cycle_taken self.old before.now after.now shown.now }
     {
@@ -136,6 +137,7 @@ impl AskedEvents {
         self.write = self.write || matches!(shown.transfer, Some(true));
     }
 
+    /// Notes a rise and a fall of a data strobe within a transfer.
     fn take_strobes(&mut self, phase: TransferPhase, before: &Lines, after: &Lines)
         ensures { self.new ≡ strobes_taken self.old phase before.now after.now }
     {
@@ -144,6 +146,7 @@ impl AskedEvents {
         self.strobe_fall = self.strobe_fall || (is_within && strobe_falls(before, after));
     }
 
+    /// Notes a fall and a rise of DTACK* or BERR*, and the answer of a transfer.
     fn take_answers(&mut self, cycle: CyclePhase, before: &Lines, after: &Lines, shown: &StepMarks)
         ensures { self.new ≡ answers_taken self.old cycle before.now after.now shown.now }
     {
@@ -181,6 +184,7 @@ impl AskedEvents {
         }
     }
 
+    /// Notes the fall and the rise of a net of a daisy chain.
     fn take_net(&mut self, before: &Lines, after: &Lines, change: Change)
         ensures { self.new ≡ net_taken before.now after.now self.old change }
     {

@@ -90,6 +90,7 @@ impl Tally {
         self.unanswered = None;
     }
 
+    /// Counts a reset that ends a stretch, if there is one.
     fn take_reset(&mut self, resets: bool)
         ensures { self.new ≡ if resets then at_reset counted self.old else self.old }
     {
@@ -99,6 +100,7 @@ impl Tally {
         }
     }
 
+    /// Counts a tenure that starts, if one does.
     fn take_tenure(&mut self, tenure: Option<BusGrant>)
         ensures { self.new ≡ option_map_or (at_tenure counted self.old) tenure self.old }
     {
@@ -107,6 +109,7 @@ impl Tally {
         }
     }
 
+    /// Counts a cycle that starts, if one does.
     fn take_cycle(&mut self, start: Option<CycleStart>)
         ensures { self.new ≡ option_map_or (at_cycle counted self.old) start self.old }
     {
@@ -130,6 +133,7 @@ impl Tally {
         }
     }
 
+    /// Counts a transfer that starts; it waits for its answer.
     fn begin_transfer(&mut self, started: StartedTransfer, write: bool)
         ensures { self.new ≡ at_transfer counted self.old started write }
     {
@@ -142,6 +146,7 @@ impl Tally {
         }
     }
 
+    /// Counts an answer, if there is one.
     fn take_answer(&mut self, answer: Option<TransferAnswer>)
         ensures { self.new ≡ option_map_or (at_answer counted self.old) answer self.old }
     {

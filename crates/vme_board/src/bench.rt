@@ -22,60 +22,70 @@ use vme_core::{Stage, View};
 use vme_summary::{Judged, judge_block};
 use vme_trace::Block;
 
+/// To win a draw.
 struct Draw;
 
 impl Play<Option<Judged>, View> for Draw {
     ghost then = { DrawPost };
 }
 
+/// To claim a number.
 struct Claim;
 
 impl Play<Option<Judged>, View> for Claim {
     ghost then = { ClaimPost };
 }
 
+/// To file a number.
 struct File;
 
 impl Play<Option<Judged>, View> for File {
     ghost then = { FilePost };
 }
 
+/// To take a number.
 struct Take;
 
 impl Play<Option<Judged>, View> for Take {
     ghost then = { TakePost };
 }
 
+/// To give a slot back.
 struct Give;
 
 impl Play<Option<Judged>, View> for Give {
     ghost then = { GivePost };
 }
 
+/// To see which numbers are claimed.
 struct LookAtClaimed;
 
 impl Play<Option<Judged>, View> for LookAtClaimed {
     ghost then = { ClaimedLookPost };
 }
 
+/// To see which numbers are filed.
 struct LookAtFiled;
 
 impl Play<Option<Judged>, View> for LookAtFiled {
     ghost then = { FiledLookPost };
 }
 
+/// To see which numbers are taken.
 struct LookAtTaken;
 
 impl Play<Option<Judged>, View> for LookAtTaken {
     ghost then = { TakenLookPost };
 }
 
+/// To see that all draws are different, and all filed and all taken numbers.
 struct Count;
 
 impl Play<Option<Judged>, View> for Count {
     ghost then = { CountPost };
 }
 
+/// To split a bench.
 struct SplitOff;
 
 impl Split<View> for SplitOff {
@@ -84,6 +94,7 @@ impl Split<View> for SplitOff {
     ghost right = { split_view };
 }
 
+/// To join two benches.
 struct Fold;
 
 impl Join<View> for Fold {
@@ -227,6 +238,7 @@ impl Bench {
     }
 
     // Looks, by a load, whether the number is at the stage Claimed or a later one.
+    /// Whether the bench sees the number claimed.
     fn sees_claimed(&mut self, board: &Board, number: u32) -> bool
         requires bench { IsOf self.old board.now }
         requires number { number < total_of board.now }
@@ -246,6 +258,7 @@ impl Bench {
     }
 
     // Looks, by a load, whether the number is at the stage Filed or Taken.
+    /// Whether the bench sees the number filed.
     fn sees_filed(&mut self, board: &Board, number: u32) -> bool
         requires bench { IsOf self.old board.now }
         requires number { number < total_of board.now }
@@ -265,6 +278,7 @@ impl Bench {
     }
 
     // Looks, by a load, whether the number is at the stage Taken.
+    /// Whether the bench sees the number taken.
     fn sees_taken(&mut self, board: &Board, number: u32) -> bool
         requires bench { IsOf self.old board.now }
         requires number { number < total_of board.now }
@@ -283,6 +297,8 @@ impl Bench {
 
     // Claims the block's number, puts the block into its slot and files it. Hands the block back if the number was
     // claimed before.
+    /// Claims the number of a block and files the block, or hands the block back if another bench has claimed the
+    /// number.
     fn try_claim(&mut self, board: &Board, judged: Judged) -> Result<Filed, Judged>
         requires bench { IsOf self.old board.now }
         requires number { judged.number < total_of board.now }

@@ -157,6 +157,7 @@ impl Board {
 }
 
 // A slot's value, if its number is filed and not taken.
+/// What was found in a slot, if its number was filed and not taken.
 fn pick(found: Option<Judged>, filed: u64, taken: u64) -> Option<Judged>
     ensures { result ≡ cond (filed == 1) (cond (taken == 1) None found) None }
 {
@@ -171,6 +172,7 @@ fn pick(found: Option<Judged>, filed: u64, taken: u64) -> Option<Judged>
 
 // Takes each slot's value, in order, and keeps it if the number is filed and not taken. Counts the filed and the taken
 // numbers.
+/// The contents of a closed board, and how many numbers were filed and how many taken.
 fn emptied(
     closed: ClosedTable<Option<Judged>, Global>,
     contents: Vec<Option<Judged>>,

@@ -67,6 +67,7 @@ fn cycle_row(start: u32, lines: &Lines) -> Row
     }
 }
 
+/// The direction of a transfer, by whether it is a write.
 fn direction(is_write: bool) -> Direction
     ensures { result ≡ (if is_write then Write else Read) }
 {

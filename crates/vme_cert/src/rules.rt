@@ -40,6 +40,7 @@ fn rules_on(line: Line) -> &'static [Rule]
     }
 }
 
+/// Whether a rule with this number is among the rules.
 fn is_listed(rules: &[Rule], number: u8) -> bool
     ensures { result ≡ list_any (λ rule. rule_number rule == number) rules.now }
 {
@@ -53,6 +54,7 @@ fn may_be_broken_on(rule: Rule, line: Line) -> bool
     is_listed(rules_on(line), rule.number())
 }
 
+/// The line with this number.
 fn nth_line(number: u8) -> Line
     requires { number < line_count }
     ensures { result ≡ number }
@@ -71,6 +73,7 @@ fn input_of(line: Line) -> Line
     nth_line(line.number() - 1)
 }
 
+/// The level of the grant chain that a net belongs to, 0 to 3.
 fn level_of(line: Line) -> u8
     requires { IsTrue (is_grant line) }
     ensures level { result ≡ grant_level line }

@@ -70,6 +70,7 @@ pub fn unsettled_comparison()
         → compared_settled 0 (binding_read b) (dump_read d) given ≡ compared (binding_read b) (dump_read d) given }
 {}
 
+/// Compares the listing, tells the result or why there is none, and returns the status of the process and the listing.
 fn answer<B: Source, D: Source, L: Source + Drop, O: Sink, E: Sink>(
     alloc: Global,
     binding: &mut B,
@@ -138,6 +139,7 @@ fn comparison<B: Source, D: Source, L: Source + Drop>(
     }
 }
 
+/// Compares the listing by a binding, and returns the result and the listing.
 fn comparison_bound<D: Source, L: Source + Drop>(
     alloc: Global,
     bound: &Binding,

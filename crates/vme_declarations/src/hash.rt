@@ -6,6 +6,7 @@ ghost use Rattle.vme_declarations.specs.Hashes.{hash_of, hash_of_number};
 /// The hash of no bytes.
 pub const EMPTY_HASH: u64 = 0xcbf2_9ce4_8422_2325;
 
+/// The FNV prime of 64 bits.
 const PRIME: u64 = 0x0100_0000_01b3;
 
 /// The hash of `number` after what has the hash `before`.

@@ -229,6 +229,7 @@ fn fell_at(subject: &Subject<'_>, line: Line, instant: u32) -> bool {
     }
 }
 
+/// Appends the name of a line and what it does.
 fn push_edge(text: &mut Text, line: Line, edge: &str) -> Result<(), AllocError> {
     text.push(line.name().as_bytes())?;
     text.push(edge.as_bytes())

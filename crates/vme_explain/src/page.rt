@@ -91,6 +91,7 @@ pub fn push_open(text: &mut Text, alloc: Global, subject: &Subject<'_>) -> Resul
     Ok(())
 }
 
+/// Appends what a row says that is open at the break.
 fn push_open_row(
     text: &mut Text,
     alloc: Global,
@@ -142,6 +143,7 @@ fn push_open_row(
     }
 }
 
+/// Appends what the row of a transfer says that is open at the break.
 fn push_open_transfer(
     text: &mut Text,
     alloc: Global,
@@ -186,6 +188,7 @@ fn push_data(text: &mut Text, lanes: Option<Lanes>) -> Result<(), AllocError> {
     }
 }
 
+/// Appends the direction of a transfer.
 fn push_direction(text: &mut Text, direction: Direction) -> Result<(), AllocError> {
     match direction {
         Direction::Read => text.push(b"read"),
@@ -229,6 +232,7 @@ fn push_hexadecimal(text: &mut Text, number: u32, digits: u32) -> Result<(), All
     Ok(())
 }
 
+/// Appends since which instant something lasts.
 fn push_since(
     text: &mut Text,
     alloc: Global,

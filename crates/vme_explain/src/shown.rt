@@ -18,6 +18,7 @@ impl ShownLines {
         Ok(())
     }
 
+    /// Adds lines.
     fn add_all(&mut self, lines: &[Line]) -> Result<(), AllocError> {
         for line in lines {
             self.add(*line)?;

@@ -65,6 +65,7 @@ fn push_resets(text: &mut Text, alloc: Global, subject: &Subject<'_>) -> Result<
     text.push(b"\n")
 }
 
+/// Appends the counts of kinds of rows, each with the text after it.
 fn push_counts(
     text: &mut Text,
     alloc: Global,

@@ -48,6 +48,7 @@ fn digit(bits: [Option<u8>; 4]) -> u8 {
     }
 }
 
+/// The address modifier line of a bit, if there is one.
 fn modifier_line(bit: u8) -> Option<Line> {
     if bit < 6 {
         Some(Line::address_modifier(bit))
@@ -56,6 +57,7 @@ fn modifier_line(bit: u8) -> Option<Line> {
     }
 }
 
+/// The address line of a bit, if there is one.
 fn address_line(bit: u8) -> Option<Line> {
     if 1 <= bit && bit <= 31 {
         Some(Line::address(bit))
@@ -64,6 +66,7 @@ fn address_line(bit: u8) -> Option<Line> {
     }
 }
 
+/// The data line of a bit, if there is one.
 fn data_line(bit: u8) -> Option<Line> {
     if bit < 32 {
         Some(Line::data(bit))
@@ -140,6 +143,7 @@ fn digits(lines: &Lines, bus: ValueBus, count: usize) -> [u8; MOST_DIGITS] {
     text
 }
 
+/// The row of a bus, with its value at each instant in this many digits.
 fn row_of(
     alloc: Global,
     name: &'static str,

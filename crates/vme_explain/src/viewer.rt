@@ -51,6 +51,7 @@ struct TraceGroup {
     names: &'static [&'static str],
 }
 
+/// The groups of lines, in the order in which they are shown.
 const GROUPS: [TraceGroup; 5] = [
     TraceGroup {
         name: "handshake",

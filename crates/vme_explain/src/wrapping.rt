@@ -21,6 +21,7 @@ pub fn wrapped(alloc: Global, bytes: &[u8]) -> Result<Text, AllocError> {
     Ok(text)
 }
 
+/// Appends a line, broken between words where it is too long.
 fn push_wrapped(text: &mut Text, line: &[u8]) -> Result<(), AllocError> {
     if line.len() <= LONGEST {
         return text.push(line);

@@ -57,6 +57,7 @@ struct FrontDigits {
     number: u64,
 }
 
+/// The decimal digits that a text begins with, at most ten.
 fn front_digits(text: &[u8]) -> FrontDigits
     ensures few { result.count ≤ 10 }
     ensures within { result.count ≤ length text.now }
@@ -207,6 +208,7 @@ impl<'a> RowLine<'a> {
         }
     }
 
+    /// Takes a number.
     fn number(&mut self) -> u32
         ensures number { result ≡ number_at self.old }
         ensures left { self.new ≡ past_number self.old }
@@ -226,6 +228,7 @@ impl<'a> RowLine<'a> {
         }
     }
 
+    /// Takes a number below 256.
     fn small(&mut self) -> u8
         ensures small { result ≡ small_at self.old }
         ensures left { self.new ≡ past_small self.old }
@@ -251,6 +254,7 @@ impl<'a> RowLine<'a> {
         }
     }
 
+    /// Takes a number of this many hexadecimal digits.
     fn hexadecimal(&mut self, digits: usize) -> u32
         requires { digits ≤ 8 }
         ensures number { result ≡ hexadecimal_at self.old digits }
@@ -271,6 +275,7 @@ impl<'a> RowLine<'a> {
         }
     }
 
+    /// Takes an address modifier code of two hexadecimal digits.
     fn modifier(&mut self) -> u8
         ensures modifier { result ≡ modifier_at self.old }
         ensures left { self.new ≡ past_modifier self.old }
@@ -284,6 +289,7 @@ impl<'a> RowLine<'a> {
         }
     }
 
+    /// Takes the direction of a transfer.
     fn direction(&mut self) -> Direction
         ensures direction { result ≡ direction_at self.old }
         ensures left { self.new ≡ past_direction self.old }
@@ -296,6 +302,7 @@ impl<'a> RowLine<'a> {
         }
     }
 
+    /// Takes the line of an answer.
     fn answer_line(&mut self) -> AnswerLine
         ensures line { result ≡ answer_at self.old }
         ensures left { self.new ≡ past_answer self.old }
@@ -308,6 +315,7 @@ impl<'a> RowLine<'a> {
         }
     }
 
+    /// Takes the class of an addressed cycle.
     fn class(&mut self) -> Class
         ensures class { result ≡ class_at self.old }
         ensures left { self.new ≡ past_class self.old }
@@ -320,6 +328,7 @@ impl<'a> RowLine<'a> {
         }
     }
 
+    /// Takes the data of a write.
     fn lanes(&mut self) -> Lanes
         ensures lanes { result ≡ lanes_at self.old }
         ensures left { self.new ≡ past_lanes self.old }
@@ -339,6 +348,7 @@ impl<'a> RowLine<'a> {
         }
     }
 
+    /// Takes the data of a write, if they follow.
     fn data(&mut self) -> Option<Lanes>
         ensures data { result ≡ data_at self.old }
         ensures left { self.new ≡ past_data self.old }
@@ -350,6 +360,7 @@ impl<'a> RowLine<'a> {
         }
     }
 
+    /// Takes the rest of the row of a tenure.
     #[tactic(auto, unfolding(crate::specs::Lines::tenure_at, crate::specs::Lines::past_tenure))]
     fn tenure(&mut self) -> Row
         ensures row { result ≡ tenure_at self.old }
@@ -374,6 +385,7 @@ impl<'a> RowLine<'a> {
         }
     }
 
+    /// Takes the rest of the row of a cycle.
     #[tactic(auto, unfolding(crate::specs::Lines::cycle_at, crate::specs::Lines::past_cycle))]
     fn cycle(&mut self) -> Row
         ensures row { result ≡ cycle_at self.old }
@@ -411,6 +423,7 @@ impl<'a> RowLine<'a> {
         }
     }
 
+    /// Takes the rest of the row of a transfer.
     #[tactic(auto, unfolding(crate::specs::Lines::transfer_at, crate::specs::Lines::past_transfer))]
     fn transfer(&mut self) -> Row
         ensures row { result ≡ transfer_at self.old }
@@ -470,6 +483,7 @@ impl<'a> RowLine<'a> {
     }
 }
 
+/// The outcome that a text says, if it says one.
 #[tactic(auto, unfolding(crate::specs::Lines::outcome_in))]
 fn outcome(text: &[u8]) -> Option<ListedVerdict>
     ensures { result ≡ outcome_in text.now }
@@ -490,6 +504,7 @@ fn outcome(text: &[u8]) -> Option<ListedVerdict>
     Some(ListedVerdict::Unreadable(rule, instant, named))
 }
 
+/// The row that a line says, if it says one.
 #[tactic(auto, unfolding(crate::specs::Lines::row_in))]
 fn row_of(line: &[u8]) -> Option<Row>
     ensures { result ≡ row_in line.now }

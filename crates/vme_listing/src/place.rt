@@ -137,12 +137,14 @@ impl Row {
         is_allowed(version, *self)
     }
 
+    /// Whether the row says that judging starts.
     fn is_start(&self) -> bool
         ensures { result ≡ is_start self.now }
     {
         matches!(self, Row::Start { .. })
     }
 
+    /// Whether the row is of a reset.
     fn is_reset(&self) -> bool
         ensures { result ≡ is_reset self.now }
     {
@@ -156,6 +158,7 @@ impl Row {
         matches!(self, Row::Verdict(_))
     }
 
+    /// Whether the row is the verdict that the bus is never idle.
     fn is_never_idle(&self) -> bool
         ensures { result ≡ is_never_idle self.now }
     {

@@ -173,6 +173,7 @@ impl Row {
         }
     }
 
+    /// The row without the data of a write.
     fn without_data(self) -> Row
         ensures { result ≡ without_data self }
     {

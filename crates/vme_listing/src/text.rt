@@ -111,6 +111,7 @@ impl RowBuffer {
         self.extend(version.header());
     }
 
+    /// Appends a number in decimal digits.
     fn push_decimal(&mut self, number: u32)
         requires { length self.old + 10 ≤ MOST }
         ensures text { self.new ≡ self.old ++ decimal number }
@@ -129,6 +130,7 @@ impl RowBuffer {
         self.extend(&digits[start..]);
     }
 
+    /// Appends a number in this many hexadecimal digits.
     fn push_hexadecimal(&mut self, digits: usize, value: u32)
         requires room { length self.old + digits ≤ MOST }
         requires digits { digits ≤ 8 }
@@ -159,6 +161,7 @@ impl RowBuffer {
         }
     }
 
+    /// Appends the class of a cycle.
     fn push_class(&mut self, class: Class)
         requires { length self.old < MOST }
         ensures text { self.new ≡ self.old ++ class_text class }
@@ -172,6 +175,7 @@ impl RowBuffer {
         });
     }
 
+    /// Appends the direction of a transfer.
     fn push_direction(&mut self, direction: Direction)
         requires { length self.old + 5 ≤ MOST }
         ensures text { self.new ≡ self.old ++ direction_text direction }
@@ -183,6 +187,7 @@ impl RowBuffer {
         }
     }
 
+    /// Appends the line of an answer.
     fn push_answer(&mut self, line: AnswerLine)
         requires { length self.old + 5 ≤ MOST }
         ensures text { self.new ≡ self.old ++ answer_text line }
@@ -194,6 +199,7 @@ impl RowBuffer {
         }
     }
 
+    /// Appends the data of a write, if there are any.
     fn push_data(&mut self, lanes: Option<Lanes>)
         requires { length self.old + 14 ≤ MOST }
         ensures text { self.new ≡ self.old ++ data_text lanes }
@@ -205,6 +211,7 @@ impl RowBuffer {
         }
     }
 
+    /// Appends the rule of a break, its instant and its line.
     fn push_break(&mut self, rule: Rule, instant: u32, line: Line)
         requires { length self.old + 30 ≤ MOST }
         ensures text { self.new ≡ self.old ++ break_text rule instant line }
@@ -220,6 +227,7 @@ impl RowBuffer {
 
 /// The rows of each kind.
 impl RowBuffer {
+    /// Appends the row of a tenure that is open at the start.
     fn push_open_tenure(&mut self, start: u32, end: Option<u32>)
         requires { length self.old + 95 ≤ MOST }
         ensures text { self.new ≡ self.old ++ row_text (OpenTenure start end) }
@@ -231,6 +239,7 @@ impl RowBuffer {
         self.push_end_instant(end);
     }
 
+    /// Appends the row of a tenure.
     fn push_tenure(&mut self, start: u32, level: u8, slot: u8, end: Option<u32>)
         requires { length self.old + 95 ≤ MOST }
         ensures text { self.new ≡ self.old ++ row_text (Tenure start level slot end) }
@@ -246,6 +255,7 @@ impl RowBuffer {
         self.push_end_instant(end);
     }
 
+    /// Appends the row of a cycle of single transfers or of a block transfer.
     fn push_addressed_cycle(
         &mut self,
         start: u32,
@@ -270,6 +280,7 @@ impl RowBuffer {
         self.push_end_instant(end);
     }
 
+    /// Appends the row of a cycle of a free class.
     fn push_free_cycle(&mut self, start: u32, modifier: u8, end: Option<u32>)
         requires { length self.old + 95 ≤ MOST }
         ensures text { self.new ≡ self.old ++ row_text (FreeCycle start modifier end) }
@@ -283,6 +294,7 @@ impl RowBuffer {
         self.push_end_instant(end);
     }
 
+    /// Appends the row of an interrupt acknowledge cycle.
     fn push_interrupt_cycle(&mut self, start: u32, level: u8, end: Option<u32>)
         requires { length self.old + 95 ≤ MOST }
         ensures text { self.new ≡ self.old ++ row_text (InterruptCycle start level end) }
@@ -296,6 +308,7 @@ impl RowBuffer {
         self.push_end_instant(end);
     }
 
+    /// Appends the row of a transfer.
     fn push_transfer(
         &mut self,
         start: u32,
@@ -325,6 +338,7 @@ impl RowBuffer {
         self.push_data(lanes);
     }
 
+    /// Appends the row of a transfer without an answer.
     fn push_pending(&mut self, start: u32, direction: Direction)
         requires { length self.old + 95 ≤ MOST }
         ensures text { self.new ≡ self.old ++ row_text (PendingTransfer start direction) }
@@ -337,6 +351,7 @@ impl RowBuffer {
         self.extend(b" pending");
     }
 
+    /// Appends the verdict.
     fn push_verdict(&mut self, outcome: ListedVerdict)
         requires { length self.old + 95 ≤ MOST }
         ensures text { self.new ≡ self.old ++ row_text (Verdict outcome) }

@@ -9,6 +9,7 @@ use std::alloc::{AllocError, Global};
 use vme_part_format::sum_of_bytes;
 use vme_trace::{LINE_COUNT, Level, Line, Lines};
 
+/// The code of a level: 0 for Low, 1 for High, 2 for Unknown.
 fn code_of(level: Level) -> u8
     ensures { result ≡ level_code level }
 {
@@ -19,6 +20,7 @@ fn code_of(level: Level) -> u8
     }
 }
 
+/// The code of the level of the line with this number; a line that the backplane lacks is Unknown.
 fn code_at(opening: &Lines, number: u8) -> u8
     requires { number < line_count }
     ensures { result ≡ line_code opening.now number }

@@ -17,6 +17,7 @@ pub(crate) fn verdict_line(verdict: &WideVerdict) -> Message
     verdict_message(verdict).with_line_feed()
 }
 
+/// The text of a verdict.
 fn verdict_message(verdict: &WideVerdict) -> Message
     ensures text { result ≡ verdict_text (verdict_of verdict.now) }
     ensures short { length result ≤ 120 }
@@ -29,6 +30,7 @@ fn verdict_message(verdict: &WideVerdict) -> Message
     }
 }
 
+/// The text of a break, after `head`.
 fn break_message(head: &[u8], found: &WideBreak) -> Message
     requires { length head.now ≤ 16 }
     ensures text { result ≡ break_text head.now (break_of found.now) }
@@ -94,6 +96,7 @@ pub(crate) fn told_line(told: &RecordingAnswer) -> Message
     }
 }
 
+/// The name of a kind of fault, after the index of the byte.
 fn byte_message(place: usize, kind: &[u8]) -> Message
     requires { length kind.now ≤ 64 }
     ensures { result ≡ byte_text place kind.now }
@@ -105,6 +108,7 @@ fn byte_message(place: usize, kind: &[u8]) -> Message
         .with(kind)
 }
 
+/// The text of a fault of this kind at the byte of index `place`.
 fn kind_message(kind: PartFaultKind, place: usize) -> Message
     ensures { result ≡ kind_text kind place }
 {

@@ -32,6 +32,7 @@ pub fn widened(found: Option<Break>) -> Option<WideBreak>
     }
 }
 
+/// A copy of marks with instants of 64 bits. It fails if memory runs out.
 fn wide_marks(alloc: Global, marks: &[Mark]) -> Result<Vec<WideMark>, AllocError>
     ensures { IfOk result (λ v. map mark_of v.items ≡ marks.now) }
 {

@@ -101,6 +101,7 @@ fn only_next(memories: u32, counts: &[u32], nodes: &[TableNode], place: usize) -
     }
 }
 
+/// A copy of marks. It fails if memory runs out.
 fn copied(alloc: Global, marks: &[WideMark]) -> Result<Vec<WideMark>, AllocError>
     ensures { IfOk result (λ v. v.items ≡ marks.now) }
 {

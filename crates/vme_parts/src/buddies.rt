@@ -20,6 +20,7 @@ use vme_part_tables::{are_few_together, composed};
 /// The greatest order of a segment.
 pub(crate) const LAST_ORDER: u8 = 62;
 
+/// How many files a segment of this order has.
 fn file_count(order: u8) -> u64
     requires { order < 63 }
     ensures { result ≡ 2 ^ order }
@@ -135,6 +136,7 @@ pub(crate) fn joined(alloc: Global, first: Segment, second: Segment) -> Result<S
     }
 }
 
+/// Joins two segments, which have `steps` steps together. It fails if memory runs out.
 fn joined_in(
     alloc: Global,
     first: Segment,

@@ -15,12 +15,14 @@ use vme_part_format::{OutcomeTable, Segment, SegmentTimes, WideBreak};
 use vme_part_tables::follow;
 use vme_trace::{Lines, Rule};
 
+/// Whether two rules are the same.
 fn are_rules_same(rule: Rule, other: Rule) -> bool
     ensures { IsTrue result ↔ (rule ≡ other) }
 {
     rule == other
 }
 
+/// Whether two breaks are the same.
 fn is_break_same(found: WideBreak, other: WideBreak) -> bool
     ensures { IsTrue result ↔ (found ≡ other) }
 {
@@ -30,6 +32,7 @@ fn is_break_same(found: WideBreak, other: WideBreak) -> bool
         && are_rules_same(found.rule, other.rule)
 }
 
+/// Whether there are two same breaks, or none.
 fn are_breaks_same(found: Option<WideBreak>, other: Option<WideBreak>) -> bool
     ensures { IsTrue result ↔ (found ≡ other) }
 {
@@ -40,12 +43,14 @@ fn are_breaks_same(found: Option<WideBreak>, other: Option<WideBreak>) -> bool
     }
 }
 
+/// Whether all levels are the same.
 fn are_lines_same(lines: &Lines, others: &Lines) -> bool
     ensures { IsTrue result ↔ (lines.now ≡ others.now) }
 {
     lines == others
 }
 
+/// Whether the times are the same.
 fn are_times_same(times: Option<SegmentTimes>, others: Option<SegmentTimes>) -> bool
     ensures { IsTrue result ↔ (times ≡ others) }
 {

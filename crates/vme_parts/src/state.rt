@@ -64,6 +64,7 @@ fn past(state: State, table: &OutcomeTable, steps: u64) -> State
     }
 }
 
+/// Whether break `f` is named before break `g` of the same step: by its rule, then by its line.
 fn breaks_before(f: &WideBreak, g: &WideBreak) -> bool
     ensures { result ≡ fault_before (break_of f.now) (break_of g.now) }
 {
@@ -72,6 +73,7 @@ fn breaks_before(f: &WideBreak, g: &WideBreak) -> bool
     a < b || (a == b && f.line.number() < g.line.number())
 }
 
+/// Whether break `a` is named before break `b`: by its instant, then by its rule, then by its line.
 fn comes_before(a: &WideBreak, b: &WideBreak) -> bool
     ensures { result ≡ sooner_than (break_of a.now) (break_of b.now) }
 {

@@ -11,11 +11,13 @@ use vme_explain::{OtherEvent, Subject, shown_time, time_name};
 use vme_text::Text;
 use vme_trace::Break;
 
-/// The vertical positions of the names of events, of the instants, and of the times.
+/// The vertical position of the names of events, in quarters of a millimetre.
 const EVENT_NAMES: u64 = 45;
 
+/// The vertical position of the instants.
 const INSTANTS: u64 = 60;
 
+/// The vertical position of the times.
 const TIMES: u64 = 74;
 
 /// The greatest number of letters of events at one instant.

@@ -54,6 +54,7 @@ struct PathStyle {
     dashes: &'static str,
 }
 
+/// The style in which a path is drawn.
 fn style_of(kind: PathKind) -> PathStyle {
     let (fill, stroke, width, dashes) = match kind {
         PathKind::Grid => ("none", "#bbb", "0.5", ""),

@@ -17,6 +17,7 @@ pub(crate) fn escaped(alloc: Global, bytes: &[u8]) -> Result<Text, AllocError>
     Ok(text)
 }
 
+/// Appends a byte as characters of markup.
 fn push_escaped_byte(text: &mut Text, alloc: Global, byte: u8) -> Result<(), AllocError>
     ensures ok { OnOk result (text.new ≡ text.old ++ escaped_byte byte) }
     ensures err { OnErr result (text.new ≡ text.old) }

@@ -44,6 +44,7 @@ pub(crate) fn push_waves(
     Ok(())
 }
 
+/// Adds the name of a line, in bold if the break names it.
 fn push_name(
     markup: &mut Markup,
     alloc: Global,

@@ -43,6 +43,7 @@ pub fn check_by_pods<R: Threads + Wait + Sync, B: Source, D: Source, O: Sink, E:
     answer(rt, alloc, binding, dump, plan, out, err)
 }
 
+/// Judges the inputs, tells the verdict or why there is none, and returns the status of the process.
 fn answer<R: Threads + Wait + Sync, B: Source, D: Source, O: Sink, E: Sink>(
     rt: &R,
     alloc: Global,

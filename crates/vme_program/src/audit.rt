@@ -111,6 +111,7 @@ fn allowances_in(alloc: Global, order: &AuditOrder) -> Result<Vec<Allowance>, Al
     Ok(allowances)
 }
 
+/// The error of arguments that are wrong, which `message` says.
 fn wrong_words(alloc: Global, message: &str) -> AllowancesError
     ensures of_words { IsOfWordsIfFaulty result }
     ensures usage { IsFoundIfFaulty result }

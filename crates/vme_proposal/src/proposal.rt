@@ -80,14 +80,16 @@ const AMBIGUOUS: &str =
 const NOTHING_BOUND: &str = " was found for any line of the bus.\n\
 # Each line below is a constant: a check by this binding judges nothing of the dump.\n";
 
-/// What is said of BBSY, BR and the grants where arbitration isn't judged.
+/// What is said of BBSY, BR and the grants where BBSY wasn't found.
 const NO_BUSY: &str =
     "# BBSY wasn't found: BBSY is 0, and BR and the grants are at rest, as if one master kept the bus\n";
 
+/// What is said of BBSY, BR and the grants where grants of a level that is used weren't found.
 const NO_GRANTS: &str =
     "# Not all grants of the levels that are used were found: BBSY is 0, and BR and the grants are at rest, as if one \
      master kept the bus\n";
 
+/// What is said of BBSY, BR and the grants where neither BBSY nor a grant moves.
 const NEVER_GRANTED: &str =
     "# Neither BBSY nor a grant moves: BBSY is 0, and BR and the grants are at rest, as if one master kept the bus\n";
 
@@ -297,6 +299,7 @@ impl<'a> Proposal<'a> {
         self.text.push(DOUBLED.as_bytes())
     }
 
+    /// Whether the line with this number is bound to 0 if it isn't bound to a variable.
     fn is_low(&self, number: u8) -> bool {
         match Line::from_number(number) {
             Some(line) => self.fitted.is_low(line),
@@ -416,6 +419,7 @@ impl<'a> Proposal<'a> {
         Ok(true)
     }
 
+    /// Writes the bits of a variable that are selected, from the left one to the right one.
     fn push_selection(&mut self, selection: (u32, u32)) -> Result<(), AllocError> {
         let (left, right) = selection;
         self.text.push(b"[")?;
@@ -427,11 +431,13 @@ impl<'a> Proposal<'a> {
         self.text.push(b"]")
     }
 
+    /// Writes the name of a line or a group, and an equals sign.
     fn push_name(&mut self, name: &[u8]) -> Result<(), AllocError> {
         self.text.push(name)?;
         self.text.push(b" = ")
     }
 
+    /// Writes the binding of a line or a group to a constant.
     fn write_constant(&mut self, name: &[u8], is_low: bool) -> Result<(), AllocError> {
         self.push_name(name)?;
         self.text.push(if is_low { b"0\n" } else { b"1\n" })

@@ -142,6 +142,7 @@ pub(crate) fn lengthen(bytes: &mut Vec<u8>, filled: usize, room: usize) -> Resul
     Ok(())
 }
 
+/// Reads once into `buffer` from the index `at` on, and returns how many bytes were read.
 fn read_at<R: Source>(source: &mut R, buffer: &mut [u8], at: usize) -> Result<usize, Failed>
     requires { at < length buffer.old }
     ensures front { take at buffer.new ≡ take at buffer.old }

@@ -16,6 +16,7 @@ pub fn listing_status(listing: &Listing) -> u8
     }
 }
 
+/// The exit status of a listing, by its last row.
 fn row_status(row: &Row) -> u8
     ensures { result ≡ row_status row.now }
 {
@@ -25,6 +26,7 @@ fn row_status(row: &Row) -> u8
     }
 }
 
+/// The exit status of a listing, by its verdict.
 fn verdict_row_status(outcome: ListedVerdict) -> u8
     ensures { result ≡ verdict_row_status outcome }
 {

@@ -39,6 +39,7 @@ impl Message {
         &self.bytes[..self.len]
     }
 
+    /// Appends a byte.
     fn push(&mut self, byte: u8)
         requires { length self.old < 128 }
         ensures { self.new ≡ self.old ++ byte ∷ [] }
@@ -68,6 +69,7 @@ impl Message {
         self
     }
 
+    /// The message with a number in decimal digits after it.
     fn with_digits(self, number: u64) -> Message
         requires { length self + length (decimal number) ≤ 128 }
         ensures { result ≡ self ++ decimal number }

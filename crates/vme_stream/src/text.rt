@@ -45,6 +45,7 @@ pub fn cannot_write_line() -> Message
         .with_line_feed()
 }
 
+/// The text of a verdict.
 fn verdict_message(verdict: &Verdict) -> Message
     ensures text { result ≡ verdict_text verdict.now }
     ensures short { length result ≤ 120 }
@@ -57,6 +58,7 @@ fn verdict_message(verdict: &Verdict) -> Message
     }
 }
 
+/// The text of a break, after `head`.
 fn break_message(head: &[u8], found: &Break) -> Message
     requires { length head.now ≤ 16 }
     ensures text { result ≡ break_text head.now found.now }
@@ -75,6 +77,7 @@ fn break_message(head: &[u8], found: &Break) -> Message
         .with(line.as_bytes())
 }
 
+/// The text of a refusal.
 fn refusal_message(refusal: &Refusal) -> Message
     ensures text { result ≡ refusal_text refusal.now }
     ensures short { length result ≤ 120 }
@@ -98,6 +101,7 @@ fn refusal_message(refusal: &Refusal) -> Message
     }
 }
 
+/// The name of an input in messages.
 fn input_name(input: Input) -> &'static [u8]
     ensures name { result.now ≡ input_name input }
     ensures short { length result.now ≤ 7 }
@@ -109,6 +113,7 @@ fn input_name(input: Input) -> &'static [u8]
     }
 }
 
+/// The text of a fault of a dump on this line.
 fn dump_fault_message(line: u64, kind: FaultKind) -> Message
     ensures text { result ≡ dump_fault_text line kind }
     ensures short { length result ≤ 120 }
@@ -132,6 +137,7 @@ fn dump_fault_message(line: u64, kind: FaultKind) -> Message
     }
 }
 
+/// The text of a fault of a listing.
 fn listing_fault_message(fault: ListFault) -> Message
     ensures text { result ≡ listing_fault_text fault }
     ensures short { length result ≤ 120 }
@@ -150,6 +156,7 @@ fn listing_fault_message(fault: ListFault) -> Message
     }
 }
 
+/// The text of a fault of a binding on this line.
 fn binding_fault_message(line: u64, kind: BindFaultKind) -> Message
     ensures text { result ≡ binding_fault_text line kind }
     ensures short { length result ≤ 120 }

@@ -49,6 +49,7 @@ fn escaped_lines(alloc: Global, bytes: &[u8]) -> Result<Vec<u8>, AllocError>
     Ok(all)
 }
 
+/// Appends a byte as it is shown in a text of several lines: a line feed as itself.
 fn push_byte_of_lines(all: &mut Vec<u8>, byte: u8) -> Result<(), AllocError>
     ensures { OnOk result (all.new.items ≡ all.old.items ++ hex_escaped_in_text byte) }
 {
@@ -59,6 +60,7 @@ fn push_byte_of_lines(all: &mut Vec<u8>, byte: u8) -> Result<(), AllocError>
     }
 }
 
+/// Appends a byte as it is shown: `\x` and two hexadecimal digits if it isn't a space or a visible character of ASCII.
 fn push_escaped_byte(all: &mut Vec<u8>, byte: u8) -> Result<(), AllocError>
     ensures { OnOk result (all.new.items ≡ all.old.items ++ hex_escaped_byte byte) }
 {

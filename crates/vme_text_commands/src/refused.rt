@@ -139,6 +139,7 @@ pub(crate) fn show_suggestions(
     }
 }
 
+/// Appends the line of a dump at which it is refused, with the token marked, and a hint.
 fn push_dump(
     shown: &mut Text,
     alloc: Global,
@@ -160,6 +161,7 @@ fn push_dump(
     }
 }
 
+/// Appends the line of a binding at which it is refused, with the token marked.
 fn push_binding(
     shown: &mut Text,
     alloc: Global,
@@ -230,6 +232,7 @@ fn is_of_nine(byte: u8) -> bool {
     )
 }
 
+/// Whether a byte separates tokens.
 fn is_blank(byte: u8) -> bool {
     matches!(byte, b' ' | b'\t' | b'\r')
 }

@@ -55,6 +55,7 @@ fn tell_or_complain<O: Sink, E: Sink>(
     }
 }
 
+/// The text of the variables of a dump that is read, or why there is none; `shown` is then the excerpt.
 fn variables_from<D: Source>(
     alloc: Global,
     dump: &mut D,
@@ -71,6 +72,7 @@ fn variables_from<D: Source>(
     }
 }
 
+/// The text of the variables of a dump, or why there is none; `shown` is then the excerpt.
 fn variables_in(alloc: Global, dump: &[u8], name: &[u8], shown: &mut Text) -> Result<Text, Refusal>
     ensures { IsTextOf (or_bad_dump (dump_of dump.now)) result }
 {

@@ -27,6 +27,7 @@ use vme_summary::chunk_judge::ChunkJudge;
 use vme_summary::stream_judge::StreamJudge;
 use vme_trace::StepVisitor;
 
+/// Memory ran out.
 fn want_of_memory() -> CaptureFault
     ensures { (answer : Result Trace Why) → CaptureFailsBy result answer }
 {

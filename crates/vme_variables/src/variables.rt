@@ -61,6 +61,7 @@ fn changes_in(alloc: Global, head: &Head<'_>) -> Result<ChangeCounts, VcdFault>
     }
 }
 
+/// Memory ran out.
 fn no_memory() -> VcdFault
     ensures { result ≡ record { line = 0; kind = Memory } }
 {

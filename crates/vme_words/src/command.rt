@@ -515,6 +515,7 @@ fn dump_files<'a>(alloc: Global) -> Arg<'a>
     .num_args(1..)
 }
 
+/// A file argument, which has to be given.
 fn file<'a>(alloc: Global, name: &'a str, help: &'a str) -> Arg<'a>
     ensures rule { rule_of result ≡ file_rule name.entry.now }
     ensures local { result.global ≡ false }

@@ -518,6 +518,7 @@ fn fault_under(command: Result<Command<'_>, AllocError>, message: &str) -> Order
     }
 }
 
+/// A usage error of `command`, with the text `message`. It fails if memory runs out.
 fn usage_error(
     command: Result<Command<'_>, AllocError>,
     message: &str,
