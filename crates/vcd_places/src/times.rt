@@ -52,6 +52,7 @@ pub(crate) enum BegunItem<'a> {
     Whole,
 }
 
+/// Whether a digit is 0, 1, x or z.
 fn is_bit(digit: u8) -> bool
     ensures { result ≡ is_bit digit }
 {
@@ -65,6 +66,7 @@ fn are_bits(digits: &[u8]) -> bool
     !digits.is_empty() && all_bits(digits)
 }
 
+/// Whether each digit is 0, 1, x or z.
 fn all_bits(digits: &[u8]) -> bool
     ensures { result ≡ list_all is_bit digits.now }
 {

@@ -201,6 +201,7 @@ impl<'a, 'c, T: ChangeVisitor> Body<'a, 'c, T> {
         }
     }
 
+    /// Takes a time by its digits. Returns whether reading goes on.
     fn time(&mut self, alloc: Global, start: Start, digits: &[u8]) -> Result<bool, VcdFault>
         requires { IsStart self.old.reader.text start }
         ensures same { (self.new.reader ≡ self.old.reader) × (self.new.codes ≡ self.old.codes)
@@ -242,6 +243,7 @@ impl<'a, 'c, T: ChangeVisitor> Body<'a, 'c, T> {
         Ok(true)
     }
 
+    /// Takes a change of the variables of a code. Returns whether reading goes on.
     #[inline(always)]
     fn change(
         &mut self,
@@ -328,6 +330,7 @@ impl<'a, 'c, T: ChangeVisitor> Body<'a, 'c, T> {
         }
     }
 
+    /// Takes a value of another kind for a code that is declared. Returns whether reading goes on.
     fn skip(&self, start: Start, code: &[u8]) -> Result<bool, VcdFault>
         requires { IsStart self.now.reader.text start }
         ensures goes_on { IfOk result (λ goes_on. goes_on ≡ true) }
@@ -370,6 +373,7 @@ impl<'a, 'c, T: ChangeVisitor> Body<'a, 'c, T> {
         Ok(false)
     }
 
+    /// Opens a dump section. Returns whether reading goes on.
     fn open(&mut self, start: Start) -> Result<bool, VcdFault>
         requires { IsStart self.old.reader.text start }
         ensures same { (self.new.reader ≡ self.old.reader) × (self.new.codes ≡ self.old.codes)
@@ -390,6 +394,7 @@ impl<'a, 'c, T: ChangeVisitor> Body<'a, 'c, T> {
         Ok(true)
     }
 
+    /// Closes the dump section. Returns whether reading goes on.
     fn close(&mut self, start: Start) -> Result<bool, VcdFault>
         requires { IsStart self.old.reader.text start }
         ensures same { (self.new.reader ≡ self.old.reader) × (self.new.codes ≡ self.old.codes)

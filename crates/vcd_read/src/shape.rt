@@ -96,6 +96,7 @@ fn are_bits(digits: &[u8]) -> bool
     !digits.is_empty() && all_bits(digits)
 }
 
+/// Whether each digit is 0, 1, x or z.
 fn all_bits(digits: &[u8]) -> bool
     ensures { result ≡ list_all is_bit digits.now }
 {

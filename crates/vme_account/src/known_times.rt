@@ -39,6 +39,7 @@ pub(crate) struct KnownTimes {
     has_cycle: bool,
 }
 
+/// The opening, for an event that hasn't happened.
 const OPENING: TimedInstant = TimedInstant {
     instant: 0,
     time: 0,

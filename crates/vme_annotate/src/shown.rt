@@ -35,6 +35,7 @@ pub(crate) fn address_digits(modifier: u8) -> usize
     }
 }
 
+/// `_BLT` for a block transfer, nothing for another cycle.
 fn block_text(class: Class) -> &'static [u8]
     ensures text { result.now ≡ block_text class }
     ensures length { length result.now ≤ 4 }
@@ -45,6 +46,7 @@ fn block_text(class: Class) -> &'static [u8]
     }
 }
 
+/// The direction of a transfer.
 fn direction_text(direction: Direction) -> &'static [u8]
     ensures text { result.now ≡ direction_text direction }
     ensures length { length result.now ≤ 5 }
@@ -55,6 +57,7 @@ fn direction_text(direction: Direction) -> &'static [u8]
     }
 }
 
+/// `_BERR` for an answer by BERR, nothing for one by DTACK.
 fn answer_text(line: AnswerLine) -> &'static [u8]
     ensures text { result.now ≡ answer_text line }
     ensures length { length result.now ≤ 5 }
@@ -66,6 +69,7 @@ fn answer_text(line: AnswerLine) -> &'static [u8]
 }
 
 impl ShortText {
+    /// Appends what is shown of a tenure.
     fn push_tenure(&mut self, level: u8, slot: u8)
         requires { length self.old + 50 ≤ MOST }
         ensures { self.new ≡ self.old ++ tenure_text level slot }
@@ -76,6 +80,7 @@ impl ShortText {
         self.push_decimal(u64::from(level));
     }
 
+    /// Appends the address space and the address.
     fn push_address(&mut self, class: Class, modifier: u8, address: u32)
         requires { length self.old + 50 ≤ MOST }
         ensures { self.new ≡ self.old ++ address_text class modifier address }
@@ -86,6 +91,7 @@ impl ShortText {
         self.push_hexadecimal(address_digits(modifier), address);
     }
 
+    /// Appends the data of a write, if there are any.
     fn push_data(&mut self, lanes: Option<Lanes>)
         requires { length self.old + 9 ≤ MOST }
         ensures text { self.new ≡ self.old ++ data_text lanes }
@@ -97,6 +103,7 @@ impl ShortText {
         }
     }
 
+    /// Appends what is shown of an answered transfer.
     fn push_transfer(&mut self, direction: Direction, line: AnswerLine, lanes: Option<Lanes>)
         requires { length self.old + 50 ≤ MOST }
         ensures { self.new ≡ self.old ++ transfer_text direction line lanes }
@@ -106,6 +113,7 @@ impl ShortText {
         self.push(answer_text(line));
     }
 
+    /// Appends the rule of a break and its line.
     fn push_break(&mut self, rule: Rule, line: Line)
         requires { length self.old + 50 ≤ MOST }
         ensures { self.new ≡ self.old ++ break_text rule line }
@@ -115,6 +123,7 @@ impl ShortText {
         self.push(line.name().as_bytes());
     }
 
+    /// Appends the break of a verdict, if it has one.
     fn push_outcome(&mut self, outcome: ListedVerdict)
         requires { length self.old + 50 ≤ MOST }
         ensures { self.new ≡ self.old ++ verdict_text outcome }

@@ -11,6 +11,7 @@ use crate::shown::address_digits;
 use vme_listing::{AnswerLine, Direction, ListedVerdict, Row, data_digits};
 use vme_trace::{Class, Lanes, Line, Rule};
 
+/// The class of a cycle, by its letter.
 fn class_text(class: Class) -> &'static [u8]
     ensures text { result.now ≡ class_text class }
     ensures length { length result.now ≡ 1 }
@@ -23,6 +24,7 @@ fn class_text(class: Class) -> &'static [u8]
     }
 }
 
+/// The direction of a transfer.
 fn direction_text(direction: Direction) -> &'static [u8]
     ensures text { result.now ≡ direction_text direction }
     ensures length { length result.now ≤ 5 }
@@ -33,6 +35,7 @@ fn direction_text(direction: Direction) -> &'static [u8]
     }
 }
 
+/// The line of an answer.
 fn answer_text(line: AnswerLine) -> &'static [u8]
     ensures text { result.now ≡ answer_text line }
     ensures length { length result.now ≤ 5 }
@@ -78,6 +81,7 @@ impl ShortText {
         }
     }
 
+    /// Appends the row of a tenure with its times.
     fn push_timed_tenure(
         &mut self,
         listing: &TimedListing,
@@ -98,6 +102,7 @@ impl ShortText {
         self.push_end_instant(listing, b" end ", end);
     }
 
+    /// Appends the row of an addressed cycle with its times.
     fn push_timed_cycle(
         &mut self,
         listing: &TimedListing,
@@ -121,6 +126,7 @@ impl ShortText {
         self.push_end_instant(listing, b" end ", end);
     }
 
+    /// Appends the data of a write, if there are any.
     fn push_timed_data(&mut self, lanes: Option<Lanes>)
         requires { length self.old + 14 ≤ MOST }
         ensures text { self.new ≡ self.old ++ data_text lanes }
@@ -132,6 +138,7 @@ impl ShortText {
         }
     }
 
+    /// Appends the row of an answered transfer with its times.
     fn push_timed_transfer(
         &mut self,
         listing: &TimedListing,
@@ -158,6 +165,7 @@ impl ShortText {
         self.push_timed_data(lanes);
     }
 
+    /// Appends the row of a break with its time.
     fn push_timed_break(
         &mut self,
         listing: &TimedListing,
@@ -178,6 +186,7 @@ impl ShortText {
         self.push(line.name().as_bytes());
     }
 
+    /// Appends the row of a verdict, with the time of its break if it has one.
     fn push_timed_verdict(&mut self, listing: &TimedListing, outcome: ListedVerdict)
         requires { self.old ≡ [] }
         ensures text { self.new ≡ timed_row listing.now.times (Verdict outcome) }
@@ -195,6 +204,7 @@ impl ShortText {
         }
     }
 
+    /// Appends a row with its times.
     fn push_timed_row(&mut self, listing: &TimedListing, row: &Row)
         requires { self.old ≡ [] }
         ensures text { self.new ≡ timed_row listing.now.times row.now }

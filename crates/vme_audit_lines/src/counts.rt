@@ -48,6 +48,7 @@ fn push_sum(alloc: Global, text: &mut Text, sum: u128, behind: &[u8]) -> Result<
     text.push(behind)
 }
 
+/// Appends the numbers of breaks.
 fn push_breaks(
     alloc: Global,
     text: &mut Text,
@@ -62,6 +63,7 @@ fn push_breaks(
     push_number(alloc, text, breaks.allowed, b" allowed\n")
 }
 
+/// Appends the numbers of resets, tenures and cycles.
 fn push_cycles(
     alloc: Global,
     text: &mut Text,
@@ -84,6 +86,7 @@ fn push_cycles(
     push_number(alloc, text, counts.acknowledge, b" acknowledge)\n")
 }
 
+/// Appends the numbers of transfers.
 fn push_transfers(
     alloc: Global,
     text: &mut Text,

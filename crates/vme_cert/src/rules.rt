@@ -98,18 +98,21 @@ fn is_passed_on(line: Line) -> bool
     line.grant_place().unwrap_or((0, 0)).1 > 0
 }
 
+/// Whether cycles of this class are single.
 fn is_single(class: Class) -> bool
     ensures { result ≡ is_single class }
 {
     matches!(class, Class::S)
 }
 
+/// Whether cycles of this class are block transfers.
 fn is_block(class: Class) -> bool
     ensures { result ≡ is_block_class class }
 {
     matches!(class, Class::K)
 }
 
+/// Whether cycles of this class are interrupt acknowledges.
 fn is_interrupt(class: Class) -> bool
     ensures { result ≡ is_interrupt class }
 {

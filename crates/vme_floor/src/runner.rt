@@ -20,10 +20,13 @@ use std::thread::Threads;
 use vme_board::Board;
 use vme_trace::Block;
 
+/// The greatest number of blocks.
 const MOST_BLOCKS: u32 = 4096;
 
+/// The greatest number of deliveries.
 const MOST_DELIVERIES: usize = 65536;
 
+/// The greatest number of workers.
 const MOST_WORKERS: u32 = 64;
 
 /// Judges a recording from deliveries of its numbered blocks, in any order, each block once or more.

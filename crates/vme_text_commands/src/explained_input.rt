@@ -79,6 +79,7 @@ impl KeptDump {
     }
 }
 
+/// The variables of a dump, or none if its definitions have a fault. It fails if memory runs out.
 fn variables_of(alloc: Global, bytes: &[u8]) -> Result<Variables, AllocError> {
     match read_definitions(alloc, bytes, Variables::new(alloc)) {
         Ok((_, variables)) => Ok(variables),

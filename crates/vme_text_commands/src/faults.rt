@@ -27,6 +27,7 @@ pub fn tell_faults<O: Sink, E: Sink>(
     tell_text(&made, 0, out, err)
 }
 
+/// The text of the page of a kind of fault, or of all.
 fn text_of_faults(alloc: Global, only: Option<RefusalKind>) -> Result<Text, Refusal>
     ensures { ArePages only result }
 {

@@ -28,6 +28,7 @@ pub fn tell_rules<O: Sink, E: Sink>(
     tell_text(&made, 0, out, err)
 }
 
+/// The text of the page of a rule, or of all.
 fn text_of_rules(alloc: Global, only: Option<Rule>) -> Result<Text, Refusal>
     ensures { AreGuides only result }
 {
