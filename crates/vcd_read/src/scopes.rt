@@ -80,7 +80,7 @@ impl Scopes {
         &self.path
     }
 
-    /// The path of a name in the open scopes.
+    /// The path of a name in the open scopes. It fails if memory runs out.
     pub fn path_of(&self, alloc: Global, name: &[u8]) -> Result<Vec<u8>, AllocError>
         requires { 0 < length name.now }
         ensures { IfOk result (λ path. path.items ≡ path_of self.now name.now) }

@@ -43,7 +43,8 @@ impl<T: ChangeVisitor> TimedVisitor<T> {
         }
     }
 
-    /// Advances to `time`. If it isn't the current time, an instant at the current time is ended.
+    /// Advances to `time`. If it isn't the current time, an instant at the current time is ended. It fails if memory
+    /// runs out, and then nothing is said of the visitor and the time.
     #[inline(always)]
     pub fn advance(&mut self, alloc: Global, time: u64) -> Result<(), AllocError>
         ensures { OnOk result (body_fold (T.taken self.new.visitor) self.new.clock
@@ -57,7 +58,7 @@ impl<T: ChangeVisitor> TimedVisitor<T> {
         Ok(())
     }
 
-    /// Takes a change at the current time.
+    /// Takes a change at the current time. It fails if memory runs out, and then nothing is said of the visitor.
     #[inline(always)]
     pub fn change(
         &mut self,
@@ -77,7 +78,7 @@ impl<T: ChangeVisitor> TimedVisitor<T> {
         Ok(())
     }
 
-    /// Ends the instant at the current time, if there is one, and returns the visitor.
+    /// Ends the instant at the current time, if there is one, and returns the visitor. It fails if memory runs out.
     pub fn finish(mut self, alloc: Global) -> Result<T, Stopped<T>>
         ensures visitor { IfOk result (λ visitor. T.taken visitor
             ≡ ended T.with_instant (body_fold (T.taken self.visitor) self.clock)) }

@@ -110,7 +110,8 @@ impl Account {
         self.running.kept.end()
     }
 
-    /// The levels at the instants from `first` to `last`, both included, which must be kept.
+    /// The levels at the instants from `first` to `last`, both included, which must be kept. It fails if memory runs
+    /// out.
     pub fn levels_from(
         &self,
         alloc: Global,

@@ -134,7 +134,8 @@ impl Marked {
         self.opened
     }
 
-    /// The number of rows of each kind, if no mark follows: after the marks of a recording, those of its listing.
+    /// The number of rows of each kind, if no mark follows: after the marks of a recording, those of its listing. It
+    /// fails if memory runs out.
     pub fn counts(&self) -> Result<RowCounts, AllocError>
         ensures value { IfOk result (λ c. c ≡ counts_in self.now) }
         ensures listed { (ms : List MarkOf) (k : KindOf) → self.now ≡ marked ms → is_counted k ≡ true

@@ -92,7 +92,7 @@ impl RecentSteps {
     }
 
     /// The levels at the instants from `first` to `last`, both included. After the last instant of the recording the
-    /// levels stay.
+    /// levels stay. It fails if memory runs out.
     pub fn levels_from(
         &self,
         alloc: Global,

@@ -131,7 +131,8 @@ impl RowCounts {
         }
     }
 
-    /// Counts the waiting transfer as one without an answer, as where no mark follows.
+    /// Counts the waiting transfer as one without an answer, as where no mark follows. It fails if memory runs out, and
+    /// then nothing is said of the counts.
     pub fn leave(&mut self, unended: &UnendedRows) -> Result<(), AllocError>
         ensures { OnOk result (self.new ≡ fold with_row self.old (pending_rows unended.now.waiting)) }
     {

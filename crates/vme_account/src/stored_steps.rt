@@ -82,7 +82,7 @@ impl StoredSteps {
         self.end
     }
 
-    /// The levels at the instants from `first` to `last`, both included.
+    /// The levels at the instants from `first` to `last`, both included. It fails if memory runs out.
     pub fn levels_from(
         &self,
         alloc: Global,

@@ -96,7 +96,7 @@ impl OutputBuffer {
         self.len = end;
     }
 
-    /// Writes what is held, and returns whether all was written.
+    /// Writes what is held, and returns whether all was written. It fails if a write fails, this one or one before.
     pub fn finish<W: Sink>(mut self, sink: &mut W) -> Result<(), Failed>
         ensures { (start : Writing) (made : List ℕ) → HasPut start (W.writing sink.old) self made
             → MatchResult result (λ _. Writes start (W.writing sink.new) made)

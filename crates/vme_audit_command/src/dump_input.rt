@@ -50,7 +50,7 @@ impl From<AllocError> for ReadFault {
 }
 
 impl DumpInput {
-    /// The state before the first read.
+    /// The state before the first read. It fails if memory runs out.
     pub fn new(alloc: Global) -> Result<DumpInput, AllocError>
         ensures { IfOk result (λ input. input ≡ []) }
     {
@@ -68,7 +68,8 @@ impl DumpInput {
         &self.held
     }
 
-    /// Waits for more bytes, and returns whether any came.
+    /// Waits for more bytes, and returns whether any came. It fails if a read fails or memory runs out, and then
+    /// nothing is said of the bytes that are held.
     pub fn read<D: Source>(&mut self, dump: &mut D) -> Result<bool, ReadFault>
         ensures more { IfOk result (λ _. (more : List ℕ)
             × Consumes (D.reading dump.old).left (D.reading dump.new).left more × (self.new ≡ self.old ++ more)) }

@@ -79,7 +79,7 @@ impl TestCase {
         }
     }
 
-    /// Adds a break.
+    /// Adds a break. It fails if memory runs out, and then nothing is said of the test case.
     pub fn take(
         &mut self,
         alloc: Global,
@@ -108,7 +108,8 @@ impl TestCase {
         Ok(())
     }
 
-    /// Adds the counts and the outcome of the dump's audit.
+    /// Adds the counts and the outcome of the dump's audit. It fails if memory runs out, and then nothing is said of
+    /// the test case.
     pub fn end(
         &mut self,
         alloc: Global,
@@ -179,7 +180,7 @@ impl TestSuite {
     }
 }
 
-/// The JUnit file of a suite.
+/// The JUnit file of a suite. It fails if memory runs out.
 pub fn junit_file(alloc: Global, suite: &TestSuite) -> Result<Text, AllocError> {
     let mut text = Text::new(alloc);
     text.push(b"<?xml version=\"1.0\" encoding=\"UTF-8\"?>\n<testsuite name=\"vmecheck\">\n")?;

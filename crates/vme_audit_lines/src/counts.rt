@@ -13,7 +13,7 @@ use vme_text::Text;
 use vme_trace::Rule;
 
 /// The lines of counts, each after `head`: breaks by how they count; resets, tenures and cycles; transfers; and the
-/// rules that are never asked, if there are any.
+/// rules that are never asked, if there are any. It fails if memory runs out.
 pub fn count_lines(
     alloc: Global,
     head: &[u8],

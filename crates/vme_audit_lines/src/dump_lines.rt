@@ -23,7 +23,8 @@ fn shown(byte: u8) -> u8
     }
 }
 
-/// The beginning of each line about a dump of this name. Bytes below 20 and 7F, in hexadecimal, are written as `?`.
+/// The beginning of each line about a dump of this name. Bytes below 20 and 7F, in hexadecimal, are written as `?`. It
+/// fails if memory runs out.
 pub fn dump_head(alloc: Global, name: &[u8]) -> Result<Text, AllocError>
     ensures { IfOk result (λ text. text ≡ head_of name.now) }
 {
@@ -46,7 +47,7 @@ fn category_name(category: BreakCategory) -> &'static [u8]
     }
 }
 
-/// The line of a break, after `head`.
+/// The line of a break, after `head`. It fails if memory runs out.
 pub fn break_line(
     alloc: Global,
     head: &[u8],

@@ -9,7 +9,7 @@ use std::alloc::{AllocError, Global};
 use vme_audit::{CoverageGap, Outcome};
 use vme_text::Text;
 
-/// The line of an outcome, after `head`.
+/// The line of an outcome, after `head`. It fails if memory runs out.
 pub fn outcome_line(alloc: Global, head: &[u8], outcome: &Outcome) -> Result<Text, AllocError>
     ensures { IfOk result (λ text. text ≡ head.now ++ line_of (outcome_text outcome.now)) }
 {

@@ -71,7 +71,8 @@ impl Auditor {
         }
     }
 
-    /// Takes the next step, and returns the break that it makes, if any.
+    /// Takes the next step, and returns the break that it makes, if any. It fails if 2^64 - 1 steps were taken, and
+    /// then stays as it was.
     pub fn step(&mut self, step: &Step) -> Result<Option<AuditBreak>, TooManySteps>
         ensures recorded { OnOk result (self.new ≡ with_steps self.old (step.now ∷ [])) }
         ensures told { malformed_step self.new ≡ None

@@ -84,7 +84,7 @@ impl NetLines {
         Ok(())
     }
 
-    /// The lines of each net, by ascending line number.
+    /// The lines of each net, by ascending line number. It fails if memory runs out.
     pub fn of_bound_groups(
         alloc: Global,
         lines: &Lines,

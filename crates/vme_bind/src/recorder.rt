@@ -194,7 +194,7 @@ impl Recorder {
     }
 
     /// Sets the lines of a net of `size` bits to their levels in its value, which has the digits `digits`. Most nets
-    /// have one line or none.
+    /// have one line or none. It fails if memory runs out, and then only some of the lines may be set.
     #[inline(always)]
     pub fn set_by_digits(
         &mut self,
@@ -263,7 +263,8 @@ impl Recorder {
         self.last.number() < self.first.number()
     }
 
-    /// Ends an instant, which is a step if some line has another level than before.
+    /// Ends an instant, which is a step if some line has another level than before. It fails if memory runs out. The
+    /// levels that are set stay in any case.
     #[inline(always)]
     pub fn end_instant(&mut self, alloc: Global, time: u64) -> Result<Option<Step>, AllocError>
         ensures now { self.new.now ≡ self.old.now }
@@ -318,7 +319,8 @@ impl Recorder {
         })
     }
 
-    /// Ends an instant at which any lines may have another level than before.
+    /// Ends an instant at which any lines may have another level than before. It fails if memory runs out. The levels
+    /// that are set stay in any case.
     #[inline(never)]
     pub fn end_with_lines(&mut self, alloc: Global, time: u64) -> Result<Option<Step>, AllocError>
         ensures now { self.new.now ≡ self.old.now }
@@ -337,7 +339,8 @@ impl Recorder {
         }))
     }
 
-    /// Takes the values of an instant, and ends it. The result is its step, if it makes one.
+    /// Takes the values of an instant, and ends it. The result is its step, if it makes one. It fails if memory runs
+    /// out, and then nothing is said of the recorder.
     pub fn record(
         &mut self,
         alloc: Global,
@@ -373,7 +376,7 @@ impl Recorder {
     }
 
     /// Ends the current instant at the time `ended`, if that is some. It makes a step if some line has another level
-    /// than before.
+    /// than before. It fails if memory runs out, and then nothing is said of the recorder.
     pub fn end(&mut self, alloc: Global, ended: Option<u64>) -> Result<Option<Step>, AllocError>
         ensures ended { OnOk result (self.new ≡ entered end_of self.old ended) }
         ensures step { IfOk result (λ step. step_in step ≡ ended_steps self.old ended) }

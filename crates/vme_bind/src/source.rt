@@ -29,7 +29,7 @@ pub(crate) enum LevelSource {
 impl LevelSource {
     ghost use Rattle.vme_bind.specs.Sources.{source_of, path_and_selection};
 
-    /// The source that `word` says.
+    /// The source that `word` says. It fails if memory runs out.
     pub fn of(alloc: Global, word: &[u8]) -> Result<LevelSource, AllocError>
         ensures { IfOk result (λ source. source ≡ source_of word.now) }
     {

@@ -82,7 +82,7 @@ fn visitor_of<F: StepVisitor>(stopped: Stopped<CaptureBuilder<F>>) -> Stopped<F>
 
 impl Binding {
     /// Begins the recording of a dump with `front`, a prefix of its text that ends after a space. Where the definitions
-    /// don't end in `front`, `visitor` is handed back.
+    /// don't end in `front`, `visitor` is handed back. It fails if a fault of the dump is met, or if memory runs out.
     pub fn begin_text<F: StepVisitor>(
         &self,
         alloc: Global,
@@ -206,7 +206,8 @@ impl<F: StepVisitor> TextReader<F> {
         }
     }
 
-    /// Takes the next piece of the text, which ends after a space, or where the text does.
+    /// Takes the next piece of the text, which ends after a space, or where the text does. It fails if a fault of the
+    /// dump is met, or if memory runs out.
     pub fn read(self, alloc: Global, piece: &[u8]) -> Result<TextReader<F>, CaptureFault>
         ensures line { IfOk result (λ text. (text_reached text).body.line
             ≡ line_behind (text_reached self).body.line piece.now) }

@@ -67,7 +67,8 @@ pub struct Closed {
 impl Board {
     ghost use Rattle.vme_board.specs.Benches.{view_of, IsOf, total_of, draws_of};
 
-    /// A board of `total` numbers, from 1 to 4,096, and `draws` draws, up to 65,536, and its first bench.
+    /// A board of `total` numbers, from 1 to 4,096, and `draws` draws, up to 65,536, and its first bench. It fails if a
+    /// number is out of its range or memory runs out.
     pub fn new(alloc: Global, total: u32, draws: u32) -> Result<(Board, Bench), BoardFault>
         ensures total { IfOk result (λ made. total_of made.0 ≡ total) }
         ensures draws { IfOk result (λ made. draws_of made.0 ≡ draws) }

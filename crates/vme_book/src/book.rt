@@ -83,7 +83,8 @@ impl Model for Book {
 }
 
 impl Book {
-    /// A book of `total` numbers, 1 to 4,096, with nothing inserted.
+    /// A book of `total` numbers, 1 to 4,096, with nothing inserted. It fails if the total is out of its range or
+    /// memory runs out.
     pub fn new(alloc: Global, total: u32) -> Result<Book, BookFault>
         ensures bad_total { (result ≡ Err BookFault.BadTotal) ↔ ((total ≡ 0) ⊎ (4096 < total)) }
         ensures empty { IfOk result (λ book. book ≡ replicate total None) }

@@ -33,7 +33,7 @@ pub fn allowance_of(text: &[u8]) -> Option<Allowance>
     }
 }
 
-/// The allowances of some texts, in their order, if each has one.
+/// The allowances of some texts, in their order, if each has one. It fails if memory runs out.
 pub fn allowances_of(alloc: Global, texts: &[String]) -> Result<Option<Vec<Allowance>>, AllocError>
     ensures named { IfOk result (λ read. IfSome read (λ all.
         map allowance_text all.items ≡ map string_bytes texts.now)) }

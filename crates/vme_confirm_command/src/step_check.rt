@@ -82,7 +82,8 @@ impl<S: RowSource> StepCheck<S> {
         true
     }
 
-    /// Takes the steps that follow, once the dump has come to `time`.
+    /// Takes the steps that follow, once the dump has come to `time`. It fails if memory runs out, and then nothing is
+    /// said of the steps that were compared.
     pub fn take(&mut self, alloc: Global, steps: Vec<Step>, time: u64) -> Result<(), AllocError>
         requires { (skew : Option ℕ) × (given : Trace) × (from : ℕ) × (t : Trace)
             × HasCheckedSteps skew given from t self.old.settler self.old.checker self.old.count self.old.is_too_long
@@ -108,7 +109,7 @@ impl<S: RowSource> StepCheck<S> {
     }
 
     /// Takes the last steps. Returns the answer about the rows for the whole recording, or that it is too long, and the
-    /// source of the rows.
+    /// source of the rows. There is no answer if memory runs out.
     pub fn finish(
         self,
         alloc: Global,

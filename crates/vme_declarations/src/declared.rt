@@ -185,7 +185,7 @@ impl DeclaredNames {
         Ok(around)
     }
 
-    /// The names of a scope and of those around it, joined by dots.
+    /// The names of a scope and of those around it, joined by dots. It fails if memory runs out.
     pub fn path_of(&self, alloc: Global, place: usize) -> Result<Vec<u8>, AllocError>
         ensures { IfOk result (λ path. path.items ≡ path_of self.now place) }
     {

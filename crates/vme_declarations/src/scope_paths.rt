@@ -9,6 +9,7 @@ use crate::declared::{DeclaredNames, NOWHERE, Scope};
 use std::alloc::{AllocError, Global};
 
 /// What the paths of the variables in the scope `path` begin with: `path` and a dot, or nothing where `path` is empty.
+/// It fails if memory runs out.
 pub fn dotted_path(alloc: Global, path: &[u8]) -> Result<Vec<u8>, AllocError>
     ensures { IfOk result (λ front. front.items ≡ with_dot path.now) }
 {
@@ -69,7 +70,7 @@ pub fn offsets_after_scopes(
     Ok(offsets)
 }
 
-/// For each scope, whether its path is `path`.
+/// For each scope, whether its path is `path`. It fails if memory runs out.
 pub fn scopes_have_path(
     alloc: Global,
     declared: &DeclaredNames,

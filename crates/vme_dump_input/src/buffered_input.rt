@@ -94,7 +94,7 @@ fn read_after<R: Source>(
 }
 
 impl BufferedInput {
-    /// The input before the first read. Each read has room for `room` bytes.
+    /// The input before the first read. Each read has room for `room` bytes. It fails if memory runs out.
     pub fn new(alloc: Global, limit: u64, room: usize) -> Result<BufferedInput, AllocError>
         requires { IsRoomFor limit room }
         ensures { IfOk result (λ input. input ≡ not_read limit room) }
@@ -134,7 +134,8 @@ impl BufferedInput {
         self.start += count;
     }
 
-    /// Reads more bytes. At the end there are none, and the input is whole.
+    /// Reads more bytes. At the end there are none, and the input is whole. It fails if a read fails, if the input has
+    /// more bytes than its limit, or if memory runs out.
     pub fn read<R: Source>(&mut self, source: &mut R) -> Result<(), InFault>
         requires { self.old.is_whole ≡ false }
         ensures read { (old : Reading) (done : List ℕ) → IsReadTo old (R.reading source.old) done self.old
@@ -169,7 +170,8 @@ impl BufferedInput {
         Ok(())
     }
 
-    /// Reads to the end, and holds nothing of it.
+    /// Reads to the end, and holds nothing of it. It fails if a read fails, if the input has more bytes than its limit,
+    /// or if memory runs out.
     pub fn read_rest<R: Source>(&mut self, source: &mut R) -> Result<(), InFault>
         ensures limit { self.new.limit ≡ self.old.limit }
         ensures whole { (old : Reading) (done : List ℕ) → IsReadTo old (R.reading source.old) done self.old

@@ -31,7 +31,7 @@ const LONGEST_DUMP: u64 = 268_435_456;
 /// How much room each read of a dump has.
 const DUMP_ROOM: usize = 65_536;
 
-/// A buffered input for a dump.
+/// A buffered input for a dump. It fails if memory runs out.
 pub fn dump_input(alloc: Global) -> Result<BufferedInput, AllocError>
     ensures { IfOk result (λ input. input ≡ not_read longest_input DUMP_ROOM) }
 {
@@ -167,7 +167,8 @@ fn begin<D: Source>(
     }
 }
 
-/// Reads the definitions of a dump, and takes none of their bytes: they are still held.
+/// Reads the definitions of a dump, and takes none of their bytes: they are still held. It fails if the dump can't be
+/// read or is too long, if a fault of the dump is met, or if memory runs out.
 pub fn read_definitions<D: Source>(
     alloc: Global,
     binding: &Binding,

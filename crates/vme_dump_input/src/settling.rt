@@ -81,7 +81,8 @@ fn settle_last(alloc: Global, settler: StepSettler, steps: &[Step]) -> Result<Ve
     Ok(settled)
 }
 
-/// The steps that come out once `steps` follow and `time` is read. Without a settler they are `steps`.
+/// The steps that come out once `steps` follow and `time` is read. Without a settler they are `steps`. It fails if
+/// memory runs out, and then nothing is said of the settler.
 pub fn settled_steps(
     alloc: Global,
     settler: &mut Option<StepSettler>,
@@ -102,7 +103,7 @@ pub fn settled_steps(
     }
 }
 
-/// The steps that come out at the end of the dump, where `steps` are its last.
+/// The steps that come out at the end of the dump, where `steps` are its last. It fails if memory runs out.
 pub fn last_steps(
     alloc: Global,
     settler: &mut Option<StepSettler>,

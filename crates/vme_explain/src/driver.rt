@@ -33,7 +33,8 @@ pub fn driver_of(line: Line) -> Option<Driver>
     }
 }
 
-/// Appends the name of a line, and if it is a net, its driver.
+/// Appends the name of a line, and if it is a net, its driver. It fails if memory runs out, and then nothing is said of
+/// the text.
 pub fn push_label(text: &mut Text, alloc: Global, line: Line) -> Result<(), AllocError> {
     text.push(line.name().as_bytes())?;
     match driver_of(line) {

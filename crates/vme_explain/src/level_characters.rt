@@ -29,7 +29,7 @@ fn line_character(line: Line, lines: &Lines) -> u8
 }
 
 /// The characters of a line's levels, in their order: 0 is Low, 1 High and x unknown. A line that the backplane lacks
-/// has spaces.
+/// has spaces. It fails if memory runs out.
 pub fn line_characters(alloc: Global, line: Line, levels: &[Lines]) -> Result<Vec<u8>, AllocError>
     ensures { IfOk result (λ text. text.items ≡ map (line_character line) levels.now) }
 {

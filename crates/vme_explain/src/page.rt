@@ -40,7 +40,8 @@ pub struct Subject<'a> {
     pub time_scale: &'a [u8],
 }
 
-/// Why a recording is judged as it is: the text after the line of its verdict, in visible characters alone.
+/// Why a recording is judged as it is: the text after the line of its verdict, in visible characters alone. It fails if
+/// memory runs out.
 pub fn explanation(alloc: Global, subject: &Subject<'_>) -> Result<Text, AllocError>
     ensures { IfOk result (λ text. IsVisible text) }
 {
@@ -74,7 +75,8 @@ fn push_break(
     push_excerpt(text, alloc, subject, found)
 }
 
-/// Appends which tenure, cycle and transfer are open where the listing ends, a line for each.
+/// Appends which tenure, cycle and transfer are open where the listing ends, a line for each. It fails if memory runs
+/// out, and then nothing is said of the text.
 pub fn push_open(text: &mut Text, alloc: Global, subject: &Subject<'_>) -> Result<(), AllocError> {
     for (part, name) in [
         (Part::Tenure, "tenure: "),
@@ -268,7 +270,8 @@ pub fn shown_time(account: &Account, instant: u32) -> u64 {
     account.time_at(instant).unwrap_or(0)
 }
 
-/// Appends a line with the variable of a break's line, the levels there, and the driver if the line is a net.
+/// Appends a line with the variable of a break's line, the levels there, and the driver if the line is a net. It fails
+/// if memory runs out, and then nothing is said of the text.
 pub fn push_line_value(
     text: &mut Text,
     alloc: Global,

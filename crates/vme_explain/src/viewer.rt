@@ -33,7 +33,7 @@ pub fn is_save_file(begin: &[u8]) -> bool
 }
 
 /// The save file for the dump of name `dump`: the bound variables, each once, and a marker at the break, if there is
-/// one.
+/// one. It fails if memory runs out.
 pub fn save_file(alloc: Global, subject: &Subject<'_>, dump: &[u8]) -> Result<Text, AllocError>
     ensures { IfOk result (λ text. (rest : List ℕ) × (text ≡ save_file_first_line ++ rest)) }
 {

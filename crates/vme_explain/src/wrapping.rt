@@ -7,7 +7,7 @@ use vme_text::Text;
 pub(crate) const LONGEST: usize = 100;
 
 /// The text with each line longer than `LONGEST` continued on further lines, which are indented. A longer word stays
-/// whole.
+/// whole. It fails if memory runs out.
 pub fn wrapped(alloc: Global, bytes: &[u8]) -> Result<Text, AllocError> {
     let mut text = Text::new(alloc);
     let mut is_first = true;

@@ -361,7 +361,7 @@ fn push_pages(text: &mut Text, kinds: &[RefusalKind]) -> Result<(), AllocError>
     Ok(())
 }
 
-/// The page of a kind, or that of each kind, in their order.
+/// The page of a kind, or that of each kind, in their order. It fails if memory runs out.
 pub fn faults_text(alloc: Global, only: Option<RefusalKind>) -> Result<Text, AllocError>
     ensures { IfOk result (λ text. text ≡ pages_of only) }
 {

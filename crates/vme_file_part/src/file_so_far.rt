@@ -200,7 +200,7 @@ impl FileSoFar {
         }
     }
 
-    /// Judges the steps that follow.
+    /// Judges the steps that follow. It fails if memory runs out or a table with marks has too many nodes.
     pub fn go_on(self, alloc: Global, steps: &[Step]) -> Result<FileSoFar, PartRefusal>
         requires { (number : ℕ) × (listing : Bool) × (first_time : Option ℕ) × (t : Trace)
             × IsFileSoFar number listing first_time self t × FileMayGoOn t steps.now }
@@ -234,7 +234,8 @@ impl FileSoFar {
         })
     }
 
-    /// The part of the file, if no more steps follow. `backplane` is the sum of the backplane.
+    /// The part of the file, if no more steps follow. `backplane` is the sum of the backplane. It fails if memory runs
+    /// out or a table with marks has too many nodes.
     pub fn into_part(self, alloc: Global, backplane: u64) -> Result<Part, PartRefusal>
         requires { (number : ℕ) × (listing : Bool) × (first_time : Option ℕ) × (t : Trace)
             × IsFileSoFar number listing first_time self t × (malformed_step t ≡ None) }

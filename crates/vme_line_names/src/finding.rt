@@ -224,7 +224,7 @@ fn all_candidates(
 }
 
 /// Finds the lines of a backplane among the variables of the scope with the best vote, and of those around it. The
-/// scope has the path `path`, where that is some.
+/// scope has the path `path`, where that is some. It fails if memory runs out.
 pub fn find_lines(
     alloc: Global,
     declared: &DeclaredNames,

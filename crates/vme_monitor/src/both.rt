@@ -154,7 +154,7 @@ fn put_behind(marks: Vec<Mark>, alone: &[Mark]) -> Result<Vec<Mark>, AllocError>
 }
 
 /// Merges the marks of two monitors, which are both consumed. If one list is empty, the result is the other. If one has
-/// a single mark, e.g. the start of judging, it is inserted into the other.
+/// a single mark, e.g. the start of judging, it is inserted into the other. It fails if memory runs out.
 pub fn marks_together(
     alloc: Global,
     first: Vec<Mark>,

@@ -89,7 +89,7 @@ impl<M: Machine> Unfinished<M> {
     ghost use Rattle.vme_monitor.specs.UnfinishedTables.{unfinished_marks};
     ghost use Rattle.vme_monitor.specs.WholeTables.{table_marks, table_outcome, table_steps};
 
-    /// The table of no steps.
+    /// The table of no steps. It fails if memory runs out.
     pub fn new(alloc: Global) -> Result<Unfinished<M>, AllocError>
         ensures runs { IfOk result (λ t. (o : Levels)
             → HasRuns M.observation M.next M.Memory.place_of M.sensitivity_of t o []) }
@@ -147,7 +147,8 @@ impl<M: Machine> Unfinished<M> {
         Ok(())
     }
 
-    /// Adds a step at its instant after the opening.
+    /// Adds a step at its instant after the opening. It fails if memory runs out, and then nothing is said of the
+    /// table.
     #[inline(always)]
     pub fn extend(
         &mut self,
@@ -242,7 +243,7 @@ impl<P: Enumerable> Table<P> {
     ghost use Rattle.vme_monitor.specs.WholeTables.{HasRoomFor, outcome_of_both, table_layers, table_marks};
     ghost use Rattle.vme_monitor.specs.WholeTables.{table_outcome, table_rows, table_steps};
 
-    /// The table of no steps.
+    /// The table of no steps. It fails if memory runs out.
     pub fn unit(alloc: Global) -> Result<Table<P>, AllocError>
         ensures outcomes { IfOk result (λ t. (p : P) → table_outcome t p ≡ nothing_shown p) }
         ensures counted { IfOk result (λ t. table_steps t ≡ 0) }
@@ -257,7 +258,7 @@ impl<P: Enumerable> Table<P> {
         })
     }
 
-    /// The table of the steps of `first` and then those of `second`.
+    /// The table of the steps of `first` and then those of `second`. It fails if memory runs out.
     pub fn compose(
         alloc: Global,
         first: &Table<P>,

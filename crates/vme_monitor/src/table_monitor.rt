@@ -16,7 +16,7 @@ use std::alloc::{AllocError, Global};
 use std::marker::PhantomData;
 use vme_trace::{Break, Lines, Step};
 
-/// The table of some steps after an opening.
+/// The table of some steps after an opening. It fails if memory runs out.
 pub fn summarise<M: Machine>(
     alloc: Global,
     opening: &Lines,

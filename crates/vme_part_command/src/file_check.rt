@@ -156,7 +156,7 @@ impl FileCheck {
         true
     }
 
-    /// Takes the steps that follow.
+    /// Takes the steps that follow. It fails if memory runs out.
     pub fn take(self, alloc: Global, steps: Vec<Step>) -> Result<FileCheck, AllocError>
         requires { (number : ℕ) × (listing : Bool) × (first_time : Option ℕ) × (t : Trace)
             × HasTakenSteps number listing first_time self t × (malformed_step (with_steps t steps.items) ≡ None) }

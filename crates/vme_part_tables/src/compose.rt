@@ -159,7 +159,7 @@ pub fn are_few_together(first: &OutcomeTable, second: &OutcomeTable) -> bool
     first.nodes.len() <= room && second.nodes.len() <= room - first.nodes.len()
 }
 
-/// The composition of two tables. `steps` is the number of steps of the first.
+/// The composition of two tables. `steps` is the number of steps of the first. It fails if memory runs out.
 pub fn composed(
     alloc: Global,
     first: OutcomeTable,

@@ -148,7 +148,7 @@ fn report_line(alloc: Global, proposal: &Proposal<'_>, slots: u8) -> Result<Text
     Ok(text)
 }
 
-/// The line that says that even what was found makes no recording of the dump.
+/// The line that says that even what was found makes no recording of the dump. It fails if memory runs out.
 pub fn constants_report(alloc: Global) -> Result<Text, AllocError>
     ensures { IfOk result (λ text. IsVisible text) }
 {

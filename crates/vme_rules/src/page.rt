@@ -61,7 +61,7 @@ fn push_rules(text: &mut Text, rules: &[Rule]) -> Result<(), AllocError>
     Ok(())
 }
 
-/// The guide of the rule `only`, or without it the guides of all rules, in their order.
+/// The guide of the rule `only`, or without it the guides of all rules, in their order. It fails if memory runs out.
 pub fn rules_text(alloc: Global, only: Option<Rule>) -> Result<Text, AllocError>
     ensures { IfOk result (λ text. text ≡ guides_text only) }
 {

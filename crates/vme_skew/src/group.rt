@@ -143,7 +143,7 @@ impl StepGroup {
         Ok(())
     }
 
-    /// Takes the changes of the step that follows.
+    /// Takes the changes of the step that follows. It fails if memory runs out, and then nothing is said of the group.
     pub fn take(&mut self, changes: &[Change]) -> Result<(), AllocError>
         requires { ChangeLines self.old.now.slots changes.now }
         ensures { OnOk result (self.new ≡ record self.old { now = changed self.old.now changes.now }) }
@@ -155,7 +155,7 @@ impl StepGroup {
     }
 
     /// Takes the changes of the step that follows, of which nothing is known: changes of lines that the backplane
-    /// doesn't have are left out.
+    /// doesn't have are left out. It fails if memory runs out, and then nothing is said of the group.
     pub fn take_any(&mut self, changes: &[Change]) -> Result<(), AllocError>
         ensures { ChangeLines self.old.now.slots changes.now
             → OnOk result (self.new ≡ record self.old { now = changed self.old.now changes.now }) }
@@ -169,7 +169,7 @@ impl StepGroup {
     }
 
     /// Ends the group, which makes a step if some line has another level after it than before it. The next group begins
-    /// at time `next`.
+    /// at time `next`. It fails if memory runs out, and then nothing is said of the group.
     pub fn end(&mut self, alloc: Global, next: u64) -> Result<Option<Step>, AllocError>
         ensures begun { OnOk result (self.new ≡ begun next self.old.now) }
         ensures step { IfOk result (λ step. step_in step
@@ -190,7 +190,8 @@ impl StepGroup {
         }))
     }
 
-    /// Ends the group if `is_last`: then the next one begins at time `next`.
+    /// Ends the group if `is_last`: then the next one begins at time `next`. It fails if memory runs out, and then
+    /// nothing is said of the group.
     pub fn end_if(
         &mut self,
         alloc: Global,

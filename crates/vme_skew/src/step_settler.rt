@@ -85,7 +85,7 @@ impl StepSettler {
     }
 
     /// Takes the step that follows. If it begins another group, the result is the step of the group before, if that
-    /// makes one.
+    /// makes one. It fails if memory runs out, and then nothing is said of later results.
     pub fn take(&mut self, alloc: Global, step: &Step) -> Result<Option<Step>, AllocError>
         ensures taken { IfOk result (λ made. self.new ≡ taken self.old step.now made) }
         ensures settled { IsSettledSoFar self.new }
@@ -107,7 +107,7 @@ impl StepSettler {
     }
 
     /// Ends the current group, if a step at `time` or later doesn't belong to it. The result is then its step, if it
-    /// makes one.
+    /// makes one. It fails if memory runs out, and then nothing is said of later results.
     pub fn reach(&mut self, alloc: Global, time: u64) -> Result<Option<Step>, AllocError>
         ensures reached { IfOk result (λ made. self.new ≡ reached_by self.old time made) }
         ensures settled { IsSettledSoFar self.new }
@@ -124,7 +124,8 @@ impl StepSettler {
         Ok(settled)
     }
 
-    /// Ends the last group, where the recording ends. The result is its step, if it makes one.
+    /// Ends the last group, where the recording ends. The result is its step, if it makes one. It fails if memory runs
+    /// out.
     pub fn end(self, alloc: Global) -> Result<Option<Step>, AllocError>
         ensures { IfOk result (λ made. malformed_step self.given ≡ None → self.in_order ≡ true
             → self.out ++ option_to_list made ≡ (settled self.skew self.given).steps) }

@@ -90,7 +90,7 @@ impl<'a> StepAuditor<'a> {
     }
 
     /// Takes the next step, and returns the break that it makes, if any. Once the audit is stopped, it returns no
-    /// break.
+    /// break. It fails if 2^64 - 1 steps were taken, and then stays as it was.
     pub fn take(&mut self, step: &Step) -> Result<Option<CategorizedBreak>, TooManySteps>
         ensures given { OnOk result (self.new
             ≡ record self.old { recording = with_steps self.old.recording (step.now ∷ []) }) }

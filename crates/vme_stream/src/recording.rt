@@ -13,7 +13,8 @@ use std::alloc::Global;
 use vme_bind::{BindFault, Binding, read_binding};
 use vme_trace::{Capture, Source};
 
-/// The recording that a binding makes of a dump: the binding is read first.
+/// The recording that a binding makes of a dump: the binding is read first. It fails if there is no binding, no dump or
+/// no recording, or if memory runs out.
 pub fn capture_from<B: Source, D: Source>(
     alloc: Global,
     binding: &mut B,
@@ -79,7 +80,7 @@ pub fn binding_from<R: Source>(alloc: Global, source: &mut R) -> Result<Binding,
     }
 }
 
-/// The binding in a text.
+/// The binding in a text. It fails if the binding has a fault or memory runs out.
 pub fn binding_in(alloc: Global, text: &[u8]) -> Result<Binding, Refusal>
     ensures { AnswerGives (λ binding. binding) result (or_bad_binding (binding_of text.now)) }
 {

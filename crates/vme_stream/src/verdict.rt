@@ -11,7 +11,8 @@ use std::alloc::Global;
 use vme_summary::verdict_by_blocks;
 use vme_trace::{Capture, CutFault, Sink, Verdict};
 
-/// The verdict on a recording, which is judged in blocks of `block` steps.
+/// The verdict on a recording, which is judged in blocks of `block` steps. It fails if there are more than 4,096 blocks
+/// or memory runs out.
 pub fn verdict_on(alloc: Global, capture: &Capture, block: u32) -> Result<Verdict, Refusal>
     requires { (1 ≤ block) × (block ≤ 65536) }
     ensures { AnswerGives (λ verdict. verdict) result (verdict_in_blocks block capture.now) }

@@ -178,7 +178,8 @@ impl<J: ChunkJudge> StreamJudge<J> {
 
 impl StreamJudge<VerdictState> {
     /// The verdict, by the rules in force, on the recording whose steps came, if it has at most 268,435,456 of them,
-    /// and they fill at most 4,096 blocks of `size` steps.
+    /// and they fill at most 4,096 blocks of `size` steps. It fails if there are more steps or blocks, or if memory
+    /// runs out.
     pub fn verdict(self, alloc: Global, size: u32) -> Result<Verdict, NoVerdict>
         requires { (1 ≤ size) × (size ≤ 65536) }
         ensures too_many_steps { (result ≡ Err NoVerdict.TooManySteps) ↔ (capture_limit < length self.steps) }
@@ -197,7 +198,8 @@ impl StreamJudge<VerdictState> {
 
 impl StreamJudge<ListingState> {
     /// The listing, by the rules in force, of the recording whose steps came, within the limits of `verdict`: its
-    /// tenures, cycles and transfers before the least break, and the verdict.
+    /// tenures, cycles and transfers before the least break, and the verdict. It fails if there are more steps or
+    /// blocks, or if memory runs out.
     pub fn listing(self, alloc: Global, size: u32) -> Result<Listing, NoVerdict>
         requires { (1 ≤ size) × (size ≤ 65536) }
         ensures too_many_steps { (result ≡ Err NoVerdict.TooManySteps) ↔ (capture_limit < length self.steps) }

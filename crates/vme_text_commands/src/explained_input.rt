@@ -123,7 +123,7 @@ impl<'b, F: StepVisitor> ExplainedInput<'b, F> {
         }
     }
 
-    /// Takes a prefix of `bytes`, and returns its length.
+    /// Takes a prefix of `bytes`, and returns its length. It fails if memory runs out.
     pub fn take(
         self,
         alloc: Global,

@@ -31,7 +31,7 @@ impl SurveyedInput {
         }
     }
 
-    /// Takes a prefix of `bytes`, and returns its length.
+    /// Takes a prefix of `bytes`, and returns its length. It fails if memory runs out.
     pub fn take(self, alloc: Global, bytes: &[u8]) -> Result<(SurveyedInput, usize), AllocError>
         ensures within { IfOk result (λ made. made.1 ≤ length bytes.now) }
         ensures taken { IfOk result (λ made. ContinuesAs (survey_ahead self.survey) (survey_ahead made.0.survey)

@@ -103,7 +103,7 @@ fn leading_number(text: &[u8]) -> u64 {
     number
 }
 
-/// The time scale of a dump, as `10ns`; nothing where it has none.
+/// The time scale of a dump, as `10ns`; nothing where it has none. It fails if memory runs out.
 pub fn time_scale(alloc: Global, dump: &[u8]) -> Result<Text, AllocError>
     ensures { IfOk result (λ scale. scale ≡ time_scale dump.now) }
 {
@@ -113,7 +113,7 @@ pub fn time_scale(alloc: Global, dump: &[u8]) -> Result<Text, AllocError>
 }
 
 /// The number of units in the time scale of a dump, as 10 for 10 ns: how many of them one tick of time is. It is at
-/// least 1, and 1 where the dump has no time scale.
+/// least 1, and 1 where the dump has no time scale. It fails if memory runs out.
 pub fn time_unit(alloc: Global, dump: &[u8]) -> Result<u64, AllocError>
     ensures { IfOk result (λ units. 1 ≤ units) }
 {

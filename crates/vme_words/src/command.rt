@@ -50,7 +50,7 @@ Exit status:
   6  nothing is broken or unreadable in an audit, but not enough is covered; so never idle too
   7  the binding that was written has no bus to judge";
 
-/// The program, with a subcommand for each task.
+/// The program, with a subcommand for each task. It fails if memory runs out.
 pub fn vmecheck_command<'a>(alloc: Global) -> Result<Command<'a>, AllocError>
     ensures { IfOk result (λ command. app_of command ≡ vmecheck_app) }
 {
