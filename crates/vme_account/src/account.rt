@@ -125,14 +125,14 @@ impl Account {
         self.running.kept.levels_from(alloc, first, last)
     }
 
-    /// The instant at which judging starts first.
+    /// The instant at which judging starts first, if it starts.
     pub fn first_start(&self) -> Option<u32>
         ensures { result ≡ first_start self.now }
     {
         self.running.judged.notes.stretches.first_start
     }
 
-    /// The instant of the last reset that ended judging.
+    /// The instant of the last reset that ended judging, if there is one.
     pub fn last_reset(&self) -> Option<u32>
         ensures { result ≡ last_reset self.now }
     {
@@ -151,7 +151,7 @@ impl Account {
             .unwrap_or(self.running.kept.end())
     }
 
-    /// The last tenure that a grant began.
+    /// The last tenure that a grant began, if there is one.
     pub fn last_tenure(&self) -> Option<StartedTenure>
         ensures { result ≡ last_tenure self.now }
     {

@@ -192,7 +192,7 @@ impl UnendedRows {
         }
     }
 
-    /// The last open row of `part`.
+    /// The last open row of `part`, if there is one.
     pub fn of(&self, part: Part) -> Option<Row>
         ensures { result ≡ open_in self.now part }
     {

@@ -28,7 +28,8 @@ pub(crate) struct RunningAccount {
 }
 
 impl RunningAccount {
-    /// The account before the first step. It has large tables, so it is boxed and isn't moved.
+    /// The account before the first step. It has large tables, so it is boxed and isn't moved. `None` if memory runs
+    /// out.
     pub fn boxed(alloc: Global, opening: &Lines) -> Option<Box<RunningAccount>>
         ensures { IfSome result (λ running. KeepsAccount opening.now [] running.value) }
     {

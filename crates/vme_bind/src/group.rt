@@ -55,7 +55,7 @@ impl Group {
         first < other_first + u16::from(self.count) && other_first < first + u16::from(other.count)
     }
 
-    /// The lines that `name` denotes on the backplane `lines`.
+    /// The lines that `name` denotes on the backplane `lines`, if it denotes any.
     pub fn named(lines: &Lines, name: &[u8]) -> Option<Group>
         ensures { result ≡ group_named lines.now.slots name.now }
     {

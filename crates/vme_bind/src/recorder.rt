@@ -294,7 +294,8 @@ impl Recorder {
         }
     }
 
-    /// Ends an instant at which no line but this one may have another level than before.
+    /// Ends an instant at which no line but this one may have another level than before. The result is a step if the
+    /// line has another level than before.
     #[inline(always)]
     pub fn end_with_line(&mut self, alloc: Global, time: u64, line: Line) -> Option<Step>
         requires exists { IsLine self.old.now.slots line }

@@ -54,7 +54,7 @@ impl FoundLines {
         }
     }
 
-    /// The bit that was found for a line.
+    /// The bit that was found for a line, if one was.
     pub fn bit_of_line(&self, line: Line) -> Option<VariableBit>
         ensures { result ≡ bit_of_line self.now line }
     {

@@ -57,7 +57,7 @@ fn mark_lt(a: &Mark, b: &Mark) -> bool
     a.instant < b.instant || (a.instant == b.instant && i < j)
 }
 
-/// The least of two breaks by instant, then rule, then line.
+/// The least of two breaks by instant, then rule, then line, if there is one at all.
 pub fn least(first: Option<Break>, second: Option<Break>) -> Option<Break>
     ensures { result ≡ least_of first second }
 {

@@ -17,7 +17,7 @@ use vme_monitor::monitor::Monitor;
 use vme_part_format::{OutcomeTable, TableEntry, TableNode, WideBreak, WideMark};
 use vme_trace::Break;
 
-/// A break with numbers of 64 bits.
+/// The break with numbers of 64 bits, if there is one.
 pub fn widened(found: Option<Break>) -> Option<WideBreak>
     ensures { option_map break_of result ≡ found }
 {

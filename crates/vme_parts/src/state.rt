@@ -166,7 +166,7 @@ impl States {
         Known::started(Known::nth(self.known.memory as usize))
     }
 
-    /// The first break of a recording after whose steps the monitors have these states.
+    /// The first break of a recording after whose steps the monitors have these states, if there is one.
     pub fn first_break(&self) -> Option<WideBreak>
         ensures { (t : Trace) → FoundAll self.now t → option_map break_of result ≡ first_break_of t }
     {
