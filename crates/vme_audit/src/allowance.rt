@@ -1,3 +1,5 @@
+//! Known deviations, which an audit allows.
+
 use vme_trace::{Line, Rule};
 
 /// A known deviation: breaks of a rule, on one line or on every line, are allowed.

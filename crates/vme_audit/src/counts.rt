@@ -1,3 +1,5 @@
+//! How many resets, tenures, cycles and transfers a recording has.
+
 /// How many of each a recording has: resets of the bus that ended a judged stretch, tenures, cycles by their class, and
 /// transfers by their direction and by their answer.
 #[derive(Clone, Copy, Debug, PartialEq, Eq)]

@@ -1,3 +1,5 @@
+//! The outcome of an audit, and why a recording isn't covered.
+
 /// Why a recording without breaks, but for allowed ones, isn't covered.
 #[derive(Clone, Copy, Debug, PartialEq, Eq)]
 pub enum CoverageGap {

@@ -1,3 +1,5 @@
+//! How a delivery of a block to a board ends.
+
 use vme_trace::Block;
 
 /// Why a delivery is refused.

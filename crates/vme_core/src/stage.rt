@@ -1,3 +1,5 @@
+//! The stages of a number of a board.
+
 /// How far a number of a board has come. A number never goes back.
 #[derive(Clone, Copy, Debug, PartialEq, Eq)]
 pub enum Stage {

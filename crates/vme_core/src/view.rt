@@ -1,3 +1,5 @@
+//! What a bench has done and seen.
+
 use vme_trace::Block;
 
 /// What a bench has done and seen. No value of it is made: it is only in contracts, where each array is a list of any

@@ -1,3 +1,5 @@
+//! The faults of a text that isn't a listing.
+
 /// Why a text isn't a listing: its first fault from the top. Rows are counted from 1, after the header.
 #[derive(Clone, Copy, Debug, PartialEq, Eq)]
 pub enum ListFault {

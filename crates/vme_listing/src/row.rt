@@ -1,3 +1,5 @@
+//! The rows of a listing.
+
 ghost use Rattle.std.specs.Prelude.{◌≡◌};
 
 use vme_trace::{Class, Lanes, Line, Rule};

@@ -1,3 +1,5 @@
+//! A text that grows at its end.
+
 ghost use Rattle.std.specs.Prelude.{◌≡◌, ◌-◌, ◌++◌, [], OnOk, OnErr, decimal, length, replicate};
 
 use std::alloc::{AllocError, Global};

@@ -1,3 +1,5 @@
+//! The numbered blocks of a recording.
+
 ghost use Rattle.std.specs.Prelude.{◌≡◌, ℕ, Option, MatchResult, IfOk, OnOk};
 ghost use Rattle.vme_trace.specs.Trace.{Trace, levels_after};
 ghost use Rattle.vme_trace.specs.WellFormed.{malformed_step, are_changes, may_follow};

@@ -1,3 +1,5 @@
+//! Recordings of a backplane in memory, and how they are cut into blocks.
+
 ghost use Rattle.std.specs.Prelude.{◌≡◌, ◌≤◌, ◌<◌, ◌↔◌, ◌⊎◌, length, MatchResult, IfOk, SomeIff, Err, None, Some};
 ghost use Rattle.vme_trace.specs.Blocks.{block_count, blocks_of, joined_steps};
 ghost use Rattle.vme_trace.specs.WellFormed.{IsCapture, malformed_step, uncaptured_step, capture_limit};

@@ -1,3 +1,5 @@
+//! The classes of cycles.
+
 /// The kind of a cycle, by its interrupt acknowledge line and its address modifier code as AS* falls.
 #[derive(Clone, Copy, Debug, PartialEq, Eq)]
 pub enum Class {

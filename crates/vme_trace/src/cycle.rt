@@ -1,3 +1,5 @@
+//! What the levels as AS* falls determine: the class of the cycle, and the lines that it needs.
+
 ghost use Rattle.std.specs.Prelude.{◌≡◌, ◌<◌, ◌≤◌};
 ghost use Rattle.vme_trace.specs.Cycle.{modifier_bit, modifier_of, highest_address, class_of, needs_of};
 ghost use Rattle.vme_trace.specs.Cycle.{has_known_modifier, is_block};

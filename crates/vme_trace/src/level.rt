@@ -1,3 +1,5 @@
+//! The levels of a line.
+
 ghost use Rattle.std.specs.Prelude.{◌≡◌};
 
 /// What one signal shows at one instant. An active-low signal is asserted when it is low.

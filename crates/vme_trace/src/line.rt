@@ -1,3 +1,5 @@
+//! The lines of a backplane.
+
 ghost use Rattle.std.specs.Prelude.{◌≡◌, ℕ, ◌+◌, ◌*◌, ◌<◌, ◌≤◌, SomeIff, IfSome, Some, None, nat_lt, if◌then◌else◌};
 ghost use Rattle.vme_trace.specs.LineNumbers.{AM, A, BR, D, grant, grant_level, grant_place, iack, is_data, is_grant};
 ghost use Rattle.vme_trace.specs.LineNumbers.{is_net, is_slot_iack, line_count};

@@ -1,3 +1,5 @@
+//! The levels of all lines at an instant.
+
 ghost use Rattle.std.specs.Prelude.{◌≡◌, ◌+◌, ◌*◌, ◌<◌, ◌≤◌, SomeIff, IsTrue, replicate};
 ghost use Rattle.vme_trace.specs.declared.level.Level.TheVariants.{Unknown};
 

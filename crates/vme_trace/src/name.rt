@@ -1,3 +1,5 @@
+//! The names of lines and rules.
+
 ghost use Rattle.std.specs.Prelude.{◌≡◌, ◌+◌, ◌<◌, ◌≤◌, ◌∷◌, ◌++◌, [], length, decimal};
 ghost use Rattle.vme_trace.specs.Names.{two_digits};
 

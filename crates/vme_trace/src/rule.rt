@@ -1,3 +1,5 @@
+//! The rules.
+
 ghost use Rattle.std.specs.Prelude.{◌≡◌, IfSome, Some, find};
 ghost use Rattle.vme_trace.specs.Names.{is_rule_name};
 

@@ -1,3 +1,5 @@
+//! The steps of a recording, and the changes of a step.
+
 ghost use Rattle.std.specs.Prelude.{◌≡◌, IfOk};
 
 use crate::level::Level;

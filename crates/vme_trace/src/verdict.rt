@@ -1,3 +1,5 @@
+//! The verdict on a recording, and the break of a rule.
+
 use crate::line::Line;
 use crate::rule::Rule;
 
