@@ -22,15 +22,15 @@ lines_of_code c = record {
       ++ replicate 180 High;
 }
 
--- a cycle that starts with the levels `v` is a single transfer, a block transfer, or needs address lines 1 to `n`
+-- a cycle that starts with the levels `v` is one of single transfers
 abbrev pub is_single_transfer : Levels → Bool
 is_single_transfer v = is_single (class_of v)
 
--- at these levels a cycle is a block transfer
+-- a cycle that starts with the levels `v` is a block transfer
 abbrev pub is_block_transfer : Levels → Bool
 is_block_transfer v = is_block_class (class_of v)
 
--- at these levels a cycle needs the address lines up to A`n`
+-- a cycle that starts with the levels `v` needs the address lines 1 to `n`
 abbrev pub needs_up_to : ℕ → Levels → Bool
 needs_up_to n v = (needs_of v).highest == n
 

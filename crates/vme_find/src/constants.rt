@@ -6,8 +6,8 @@ ghost use Rattle.vme_find.specs.Constants.{BindsConstants};
 use std::alloc::{AllocError, Global};
 use vme_text::Text;
 
-/// The text that binds all lines of a backplane of `slots` slots to constants: a bus at rest, but with BBSY constantly
-/// Low.
+/// The text that binds all lines of a backplane of `slots` slots to constants: those of an idle bus, but with BBSY Low.
+/// It fails if memory runs out.
 pub(crate) fn constant_text(alloc: Global, slots: u8) -> Result<Text, AllocError>
     requires { (1 ≤ slots) × (slots ≤ 21) }
     ensures { IfOk result (λ text. BindsConstants slots text) }

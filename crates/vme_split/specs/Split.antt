@@ -53,7 +53,7 @@ transfer_in (Transfer direction line start cycle answer close lanes) = interval 
 transfer_in (PendingTransfer start direction) = interval start None ∷ []
 transfer_in other = []
 
--- the answer of a row by DTACK, if it has one; below, by BERR
+-- the instant at which DTACK answers the transfer of a row, if it does
 abbrev pub dtack_in : Row → List ℕ
 dtack_in (Transfer direction Dtack start cycle answer close lanes) = answer ∷ []
 dtack_in other = []

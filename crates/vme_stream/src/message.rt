@@ -69,7 +69,7 @@ impl Message {
         self
     }
 
-    /// The message with a number in decimal digits after it.
+    /// The text with a number more, in decimal.
     fn with_digits(self, number: u64) -> Message
         requires { length self + length (decimal number) ≤ 128 }
         ensures { result ≡ self ++ decimal number }
@@ -82,7 +82,7 @@ impl Message {
         }
     }
 
-    /// The text with a number more, in decimal.
+    /// The text with a number more, in decimal, at most 20 digits.
     pub fn with_decimal(self, number: u64) -> Message
         requires { length self + 20 ≤ 128 }
         ensures text { result ≡ self ++ decimal number }
