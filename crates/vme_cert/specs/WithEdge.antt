@@ -1,4 +1,4 @@
--- A row with another last edge.
+-- A row with another last edge, i.e. another instant at which it ends, or at which its transfer closes.
 use Rattle.std.specs.Prelude.{ℕ, Option}
 use Rattle.vme_cert.specs.Vocabulary.{AddressedCycle, FreeCycle, InterruptCycle, OpenTenure, Row, Tenure, Transfer}
 

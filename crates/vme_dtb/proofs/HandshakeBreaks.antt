@@ -21,7 +21,7 @@ use Rattle.vme_monitor.specs.Tracking.{entered, is_unanswered, is_within}
 use Rattle.vme_monitor.specs.declared.tracking.TransferPhase.{TransferPhase}
 use Rattle.vme_monitor.proofs.TrackedTransfers.{in_transfer-tracked, is_answer-tracked}
 use Rattle.vme_dtb.specs.Edge.{edges_between}
-use Rattle.vme_dtb.specs.Machine.{answer_in, fault_if, early_rise, may_rise, is_doubled, is_replied, is_left_unanswered}
+use Rattle.vme_dtb.specs.Machine.{answer_in, fault_if, early_rise, may_rise, is_doubled, has_answer, is_left_unanswered}
 use Rattle.vme_dtb.specs.Machine.{strobe_faults}
 use Rattle.vme_dtb.specs.Machine.{strobe_rules}
 use Rattle.vme_dtb.specs.declared.edges.Edges.{Edges}
@@ -29,7 +29,7 @@ use Rattle.vme_dtb.specs.declared.memory.HandshakeMemory.{HandshakeMemory}
 use Rattle.vme_dtb.proofs.Faults.{AreBreaksOf}
 use Rattle.vme_dtb.proofs.AnswerRises.{may_rise_at, rises-held}
 use Rattle.vme_dtb.proofs.HandshakeMeaning.{Holds}
-use Rattle.vme_dtb.proofs.OpenState.{in_transfer-answered_twice, in_transfer-is_replied, in_transfer-is_unanswered}
+use Rattle.vme_dtb.proofs.OpenState.{in_transfer-answered_twice, in_transfer-has_answer, in_transfer-is_unanswered}
 use Rattle.vme_dtb.proofs.StepFacts.{old, new, answer_falls-between, first_of-answer_fall, falls-between, least-AS_rule}
 use Rattle.vme_dtb.proofs.StepFacts.{least-answer_rule, least-strobe_rule, rises-between, rule_break-fault_if}
 use Rattle.vme_dtb.proofs.StepFacts.{cond-same, first_of-same, first_of-is_some}
@@ -130,13 +130,13 @@ module _ (t : Trace) (stretch : Stretch) (reads : ReadsStrobes t stretch) (n : �
 
   -- the machine's fault by H3 is the break of H3
   fault-H3 : option_map (break_of_fault (suc n) (time_at t (suc n)))
-      (fault_if H3 (is_replied m.transfer) seen.strobe_fall)
+      (fault_if H3 (has_answer m.transfer) seen.strobe_fall)
       ≡ rule_break t stretch (suc n) H3
   fault-H3 =
-      rule_break-fault_if t n stretch from before H3 (is_replied m.transfer) seen.strobe_fall
+      rule_break-fault_if t n stretch from before H3 (has_answer m.transfer) seen.strobe_fall
       (least-strobe_rule t n stretch from before H3 (λ l. falls t l (suc n))
       (in_transfer t stretch replied_at (suc n)) breaks-H3
-      ∙ cond-same _ _ _ _ (in_transfer-is_replied t stretch reads n from before m.transfer holds.transfer)
+      ∙ cond-same _ _ _ _ (in_transfer-has_answer t stretch reads n from before m.transfer holds.transfer)
       (first_of-strobe_fall t n))
 
   -- H4 is broken on a line by the tests of its parts
@@ -176,8 +176,8 @@ module _ (t : Trace) (stretch : Stretch) (reads : ReadsStrobes t stretch) (n : �
       ∙ same_both (falls t DTACK (suc n)) (falls t BERR (suc n)) (falls_between (old t n) (new t n) DTACK)
       (falls_between (old t n) (new t n) BERR) (falls-between t n DTACK) (falls-between t n BERR)
     where
-      same_both : (a b c d : Bool) → a ≡ c → b ≡ d → (is_replied within || (is_unanswered within && (a && b)))
-          ≡ (is_replied within || (is_unanswered within && (c && d)))
+      same_both : (a b c d : Bool) → a ≡ c → b ≡ d → (has_answer within || (is_unanswered within && (a && b)))
+          ≡ (has_answer within || (is_unanswered within && (c && d)))
       same_both a b c d e f = rw (e, f) refl
 
   -- the machine's fault by H5 is the break of H5

@@ -21,7 +21,7 @@ use Rattle.vme_monitor.specs.declared.tracking.TransferPhase.TheVariants.{Closed
 use Rattle.vme_monitor.proofs.TrackedTransfers.{IsIn, Enters, Enters-entered}
 use Rattle.vme_monitor.specs.Tracking.{entered}
 use Rattle.vme_trace.specs.Trace.{levels_at}
-use Rattle.vme_dtb.specs.Machine.{is_replied}
+use Rattle.vme_dtb.specs.Machine.{has_answer}
 
 -- if a and true is false, so is a and b
 and-false_first : (a b : Bool) → (a && true) ≡ false → (a && b) ≡ false
@@ -136,19 +136,19 @@ module _ (t : Trace) (stretch : Stretch) (reads : ReadsStrobes t stretch) (n : �
       ∙ rw (lt-ltb o.0 (suc n) (omega (arith, o.2.within)), is_answered-StaysOpen o.0 o.1 true o.2) refl
 
   -- whether n + 1 is in a transfer that started before n + 1 and was answered before n + 1
-  pub in_transfer-is_replied : (m : TransferPhase) → IsTransferPhase t stretch n m
+  pub in_transfer-has_answer : (m : TransferPhase) → IsTransferPhase t stretch n m
       → in_transfer t stretch (λ i. nat_lt i (suc n)
-      && is_answered t stretch i (suc n)) (suc n) ≡ is_replied m
-  in_transfer-is_replied Closed high_before = in_transfer-not_before
+      && is_answered t stretch i (suc n)) (suc n) ≡ has_answer m
+  in_transfer-has_answer Closed high_before = in_transfer-not_before
       (λ i. nat_lt i (suc n) && is_answered t stretch i (suc n)) high_before
       (nat_lt-self (is_answered t stretch (suc n) (suc n)))
-  in_transfer-is_replied Reading o = in_transfer-StaysOpen (λ i. nat_lt i (suc n) && is_answered t stretch i (suc n))
+  in_transfer-has_answer Reading o = in_transfer-StaysOpen (λ i. nat_lt i (suc n) && is_answered t stretch i (suc n))
       o.0 false false o.1
       ∙ rw (lt-ltb o.0 (suc n) (omega (arith, o.1.within)), o.1.reply) refl
-  in_transfer-is_replied Writing o = in_transfer-StaysOpen (λ i. nat_lt i (suc n) && is_answered t stretch i (suc n))
+  in_transfer-has_answer Writing o = in_transfer-StaysOpen (λ i. nat_lt i (suc n) && is_answered t stretch i (suc n))
       o.0 true false o.1
       ∙ rw (lt-ltb o.0 (suc n) (omega (arith, o.1.within)), o.1.reply) refl
-  in_transfer-is_replied Answered o = in_transfer-StaysOpen (λ i. nat_lt i (suc n) && is_answered t stretch i (suc n))
+  in_transfer-has_answer Answered o = in_transfer-StaysOpen (λ i. nat_lt i (suc n) && is_answered t stretch i (suc n))
       o.0 o.1 true o.2
       ∙ rw (lt-ltb o.0 (suc n) (omega (arith, o.2.within)), o.2.reply) refl
 
@@ -181,7 +181,7 @@ module _ (t : Trace) (stretch : Stretch) (reads : ReadsStrobes t stretch) (n : �
   -- whether n + 1 is in a transfer that is answered twice, by a phase that is right of it before its answer counts
   in_transfer-Enters_doubled : (e : TransferPhase) → Enters t stretch (suc n) e
       → in_transfer t stretch answered_twice (suc n)
-      ≡ (is_replied e || (is_unanswered e && (falls t DTACK (suc n) && falls t BERR (suc n))))
+      ≡ (has_answer e || (is_unanswered e && (falls t DTACK (suc n) && falls t BERR (suc n))))
   in_transfer-Enters_doubled Closed o = in_transfer-closed answered_twice (ap (strobes_high t) (sym (suc-sub-one n))
       ∙ o.0) o.1
   in_transfer-Enters_doubled Reading o = in_transfer-open answered_twice o.0 false false o.1
@@ -195,6 +195,6 @@ module _ (t : Trace) (stretch : Stretch) (reads : ReadsStrobes t stretch) (n : �
       entered m (levels_at t n)
       (levels_at t (suc n)) in
       in_transfer t stretch answered_twice (suc n)
-      ≡ (is_replied e || (is_unanswered e && (falls t DTACK (suc n) && falls t BERR (suc n))))
+      ≡ (has_answer e || (is_unanswered e && (falls t DTACK (suc n) && falls t BERR (suc n))))
   in_transfer-answered_twice m says = in_transfer-Enters_doubled (entered m (levels_at t n) (levels_at t (suc n)))
       (Enters-entered t stretch reads n from before m says)

@@ -28,7 +28,7 @@ use Rattle.vme_dtb.specs.CycleState.{after_answer}
 use Rattle.vme_dtb.specs.Edge.{cycle_start_of, edges_between, first_of, is_still, is_answer_not_high}
 use Rattle.vme_dtb.specs.Machine.{answer_in, answered_in, fault_if, cycle_fault, data_in, dtb_next, dtb_observation}
 use Rattle.vme_dtb.specs.Machine.{dtb_step}
-use Rattle.vme_dtb.specs.Machine.{handshake_fault, is_doubled, is_replied, is_left_unanswered, memory_after}
+use Rattle.vme_dtb.specs.Machine.{handshake_fault, is_doubled, has_answer, is_left_unanswered, memory_after}
 use Rattle.vme_dtb.specs.Machine.{strobe_faults}
 use Rattle.vme_dtb.specs.declared.cycle.CyclePhase.{CyclePhase}
 use Rattle.vme_dtb.specs.declared.edges.Edges.{Edges}
@@ -293,7 +293,7 @@ module _ (t : Trace) (stretch : Stretch) (n : ℕ) (m : HandshakeMemory) (holds 
         (
           fault_if-none H2 (is_left_unanswered m.transfer (absent_edges u)),
           (
-            fault_if-none H3 (is_replied m.transfer),
+            fault_if-none H3 (has_answer m.transfer),
             (
               fault_if-none H4 (not (is_within e)),
               (

@@ -22,7 +22,7 @@ use Rattle.vme_monitor.specs.declared.mark.Next.{Next}
 use Rattle.vme_monitor.specs.declared.tracking.TransferPhase.{TransferPhase}
 use Rattle.vme_monitor.specs.declared.tracking.TransferPhase.TheVariants.{Closed, Reading, Writing, Answered}
 use Rattle.vme_dtb.specs.CycleState.{after_answer, unanswered_of}
-use Rattle.vme_dtb.specs.Machine.{fault_if, cycle_fault, data_in, dtb_next, handshake_fault, is_doubled, is_replied}
+use Rattle.vme_dtb.specs.Machine.{fault_if, cycle_fault, data_in, dtb_next, handshake_fault, is_doubled, has_answer}
 use Rattle.vme_dtb.specs.Machine.{is_left_unanswered, strobe_faults}
 use Rattle.vme_dtb.specs.Edge.{cycle_start_of, closes_between, edges_between, first_of, is_addressed, stays_on}
 use Rattle.vme_dtb.specs.UsualSteps.{is_answer_alone, strobes_break_rule, is_start_alone, is_strobes_alone, memory_left}
@@ -81,7 +81,7 @@ fault_if-H2 Writing a b e f h = fault_if-no_line H2 a b DS0 DS1 (or_parts (a || 
 
 -- if the strobes break no rule, H3 isn't broken by a strobe that falls
 fault_if-H3 : (p : TransferPhase) (r e a b : Bool) → strobes_break_rule p r e (a || b) ≡ false
-    → fault_if H3 (is_replied p) (first_of a DS0 b DS1) ≡ None
+    → fault_if H3 (has_answer p) (first_of a DS0 b DS1) ≡ None
 fault_if-H3 Closed r e a b h = refl
 fault_if-H3 Reading r e a b h = refl
 fault_if-H3 Writing r e a b h = refl
@@ -98,7 +98,7 @@ cycle_end-unbroken Writing r e f h = (or_parts r e h).1
 
 -- in a transfer without an answer, DTACK* alone is its answer, and no second one
 unanswered-one_answer : (e : TransferPhase) → is_unanswered e ≡ true → (not (is_within e) ≡ false)
-    × ((is_replied e || (is_unanswered e && false)) ≡ false) × (cond (is_unanswered e) (Some DTACK) None ≡ Some DTACK)
+    × ((has_answer e || (is_unanswered e && false)) ≡ false) × (cond (is_unanswered e) (Some DTACK) None ≡ Some DTACK)
 unanswered-one_answer Reading h = (refl, refl, refl)
 unanswered-one_answer Writing h = (refl, refl, refl)
 unanswered-one_answer Closed h = absurd (cc)
@@ -150,13 +150,13 @@ module _ (m : HandshakeMemory) (v w : Levels) where
   tracked-answered : falls_between v w DTACK ≡ true → is_unanswered within ≡ true → tracked m.transfer v w
       ≡ cond (strobes_high_in w) Closed Answered
   tracked-answered d u = ap (λ (b : Bool). cond (strobes_high_in w) Closed (answered_by (b || falls_between v w BERR)
-      within)) d ∙ ap (cond (strobes_high_in w) Closed) (has_answer within u)
+      within)) d ∙ ap (cond (strobes_high_in w) Closed) (becomes_answered within u)
     where
-      has_answer : (e : TransferPhase) → is_unanswered e ≡ true → answered_by true e ≡ Answered
-      has_answer Reading h = refl
-      has_answer Writing h = refl
-      has_answer Closed h = absurd (cc)
-      has_answer Answered h = absurd (cc)
+      becomes_answered : (e : TransferPhase) → is_unanswered e ≡ true → answered_by true e ≡ Answered
+      becomes_answered Reading h = refl
+      becomes_answered Writing h = refl
+      becomes_answered Closed h = absurd (cc)
+      becomes_answered Answered h = absurd (cc)
 
   -- if no transfer starts, the phase is that of the memory
   within-no_start : starts_between v w ≡ false → within ≡ m.transfer
@@ -209,7 +209,7 @@ module _ (m : HandshakeMemory) (v w : Levels) where
         (
           fault_if-none H2 (is_left_unanswered m.transfer s),
           (
-            fault_if-none H3 (is_replied m.transfer),
+            fault_if-none H3 (has_answer m.transfer),
             (
               fault_if-none H4 (not (is_within within)),
               (
@@ -320,7 +320,7 @@ module _ (m : HandshakeMemory) (v w : Levels) where
         (
           fault_if-none H2 (is_left_unanswered m.transfer s),
           (
-            fault_if-none H3 (is_replied m.transfer),
+            fault_if-none H3 (has_answer m.transfer),
             (
               fault_if-not_applied H4 _ (Some DTACK) one.0,
               (
@@ -354,7 +354,7 @@ module _ (m : HandshakeMemory) (v w : Levels) where
         (
           fault_if-none H2 (is_left_unanswered m.transfer s),
           (
-            fault_if-none H3 (is_replied m.transfer),
+            fault_if-none H3 (has_answer m.transfer),
             (
               fault_if-none H4 (not (is_within within)),
               (

@@ -28,9 +28,9 @@ use Rattle.vme_dtb.specs.declared.edges.Edges.{Edges}
 use Rattle.vme_dtb.specs.declared.memory.HandshakeMemory.{HandshakeMemory}
 
 -- a transfer is open, and answered
-abbrev pub is_replied : TransferPhase → Bool
-is_replied Answered = true
-is_replied e = false
+abbrev pub has_answer : TransferPhase → Bool
+has_answer Answered = true
+has_answer e = false
 
 -- the fault that rule `r` is broken on `line`, if it applies and there is a line
 abbrev pub fault_if : Rule → Bool → Option ℕ → Option Fault
@@ -59,7 +59,7 @@ is_left_unanswered p s = is_unanswered p && not (is_some s.answer_fall)
 
 -- an answer line falls in a transfer that has its answer, or both fall in one
 abbrev pub is_doubled : TransferPhase → Edges → Bool
-is_doubled e s = is_replied e || (is_unanswered e && s.both_fall)
+is_doubled e s = has_answer e || (is_unanswered e && s.both_fall)
 
 -- the first answer line that rises while no strobe has risen since it fell
 abbrev pub early_rise : HandshakeMemory → Edges → Option ℕ
@@ -84,7 +84,7 @@ abbrev pub strobe_faults : HandshakeMemory → TransferPhase → Edges → List 
 strobe_faults m e s =
     fault_if H1 true s.answer_not_high
     ∷ fault_if H2 (is_left_unanswered m.transfer s) s.strobe_rise
-    ∷ fault_if H3 (is_replied m.transfer) s.strobe_fall
+    ∷ fault_if H3 (has_answer m.transfer) s.strobe_fall
     ∷ fault_if H4 (not (is_within e)) s.answer_fall
     ∷ fault_if H5 (is_doubled e s) s.answer_fall
     ∷ fault_if H6 true (early_rise m s)

@@ -14,7 +14,7 @@ ghost use Rattle.vme_monitor.specs.Run.{no_step_marks};
 ghost use Rattle.vme_monitor.specs.Whole.{FindsLeast, ShowsAll};
 ghost use Rattle.vme_dtb.specs.Machine.{answer_in, answered_in, fault_if as fault_if_on, cycle_fault as fault_of_cycle};
 ghost use Rattle.vme_dtb.specs.Machine.{data_in, early_rise as early_rise_line, dtb_next, may_rise as may_rise_by};
-ghost use Rattle.vme_dtb.specs.Machine.{handshake_fault as fault_of_handshake, handshake_rules, is_doubled, is_replied};
+ghost use Rattle.vme_dtb.specs.Machine.{handshake_fault as fault_of_handshake, handshake_rules, is_doubled, has_answer};
 ghost use Rattle.vme_dtb.specs.Machine.{is_left_unanswered};
 ghost use Rattle.vme_dtb.specs.Edge.{edges_between, is_addressed};
 ghost use Rattle.vme_dtb.specs.UsualSteps.{is_answer_alone, strobes_break_rule, is_start_alone, is_strobes_alone};
@@ -48,7 +48,7 @@ fn is_unanswered(transfer: TransferPhase) -> bool
 
 /// Whether a transfer is open and has its answer.
 fn is_answered(transfer: TransferPhase) -> bool
-    ensures { result ≡ is_replied transfer }
+    ensures { result ≡ has_answer transfer }
 {
     matches!(transfer, TransferPhase::Answered)
 }

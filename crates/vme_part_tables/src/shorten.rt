@@ -1,5 +1,6 @@
-//! Merging nodes: a node that a single way leads to is merged into the node that this way comes from. So a table has at
-//! most two nodes a memory, unless marks don't ascend.
+//! Merging nodes. The *way* of an entry or a node is the number of the memory or of the node with which its run
+//! continues (`next`). A node that a single way leads to is merged into the node that this way comes from. So a table
+//! has at most two nodes a memory, unless marks don't ascend.
 
 ghost use Rattle.std.specs.Prelude.{◌≡◌, ◌+◌, ◌<◌, ◌≤◌, ◌^◌, ◌++◌, IfOk, IfSome, IsTrue, OnOk, length, map};
 ghost use Rattle.std.specs.Option.{option_or};
