@@ -3,8 +3,8 @@
 //! # Parts
 //!
 //! - `first_time`: [`first_time_in`] gives the first time of each dump that begins with the bytes
-//!   `front`, once its first instant has ended in them; [`first_time_of_text`] gives that of a whole
-//!   text.
+//!   `front`, once its first instant has ended in them; [`first_time_of_text`] gives that of a
+//!   whole text.
 //! - `first_time_visitor`: a visitor of a body that takes the time of its first instant alone.
 //! - `no_variables`: a visitor of a header that takes no variable.
 //!
