@@ -31,11 +31,15 @@ pub(crate) struct KnownTimes {
     waiting: TimedInstant,
     /// The start of the last transfer that stays without an answer.
     unanswered: TimedInstant,
-    /// The start of the last transfer that is answered, and its answer.
+    /// The start of the last transfer that is answered.
     answered: TimedInstant,
+    /// The answer of that transfer.
     answer: TimedInstant,
+    /// Whether a transfer waits for its answer.
     is_waiting: bool,
+    /// Whether judging has started.
     has_started: bool,
+    /// Whether a cycle has started since the last reset.
     has_cycle: bool,
 }
 
@@ -71,17 +75,22 @@ impl KnownTimes {
     pub fn note_times(&mut self, now: TimedInstant, shown: &AllShown)
         ensures { (t : Trace) → AreTimes t self.old → IsTime t now → AreTimes t self.new }
     {
-        self.note_chains(now, &shown.stretch, &shown.tenure);
+        self.note_stretch_and_tenure(now, &shown.stretch, &shown.tenure);
         self.note_transfer(now, &shown.transfer);
     }
 
     /// Notes the first step, and a step's marks of stretches and tenures, if there are any.
     #[inline(always)]
-    fn note_chains(&mut self, now: TimedInstant, stretch: &StepMarks, tenure: &StepMarks)
+    fn note_stretch_and_tenure(
+        &mut self,
+        now: TimedInstant,
+        stretch: &StepMarks,
+        tenure: &StepMarks,
+    )
         ensures { (t : Trace) → AreTimes t self.old → IsTime t now → AreTimes t self.new }
     {
         if now.instant == 1 || !stretch.is_nothing() || !tenure.is_nothing() {
-            self.take_chains(now, stretch, tenure);
+            self.take_stretch_and_tenure(now, stretch, tenure);
         }
     }
 
@@ -96,7 +105,12 @@ impl KnownTimes {
     }
 
     /// Notes the first step, and a step's marks of stretches and tenures.
-    fn take_chains(&mut self, now: TimedInstant, stretch: &StepMarks, tenure: &StepMarks)
+    fn take_stretch_and_tenure(
+        &mut self,
+        now: TimedInstant,
+        stretch: &StepMarks,
+        tenure: &StepMarks,
+    )
         ensures { (t : Trace) → AreTimes t self.old → IsTime t now → AreTimes t self.new }
     {
         let first = now_if(now.instant == 1, now, self.first);

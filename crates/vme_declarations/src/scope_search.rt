@@ -12,9 +12,11 @@ use vcd_read::{Declaration, DeclarationVisitor, Scopes, read_definitions};
 /// A visitor that looks for a variable in a scope, or in a scope within it.
 #[derive(Drop)]
 struct ScopeSearch {
+    /// The open scopes.
     open: Scopes,
     /// What the path of such a variable begins with.
     front: Vec<u8>,
+    /// Whether such a variable was found.
     is_found: bool,
 }
 

@@ -1,4 +1,4 @@
-use Rattle.vme_account.proofs.known_times.KnownTimes.take_chains.Goals as goal
+use Rattle.vme_account.proofs.known_times.KnownTimes.take_stretch_and_tenure.Goals as goal
 
 pub returns : goal.returns
 returns c = λ t old now. record {
