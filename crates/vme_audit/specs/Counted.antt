@@ -31,7 +31,7 @@ abbrev pub is_block_cycle : Row → Bool
 is_block_cycle (AddressedCycle start class modifier address end) = is_block_class class
 is_block_cycle row = false
 
--- the row of a cycle of a class without rules
+-- the row of a cycle of class F: its address modifier code is user-defined or reserved, or has an unknown bit
 abbrev pub is_free_cycle : Row → Bool
 is_free_cycle (FreeCycle start modifier end) = true
 is_free_cycle row = false

@@ -297,8 +297,7 @@ impl Bench {
 
     // Claims the block's number, puts the block into its slot and files it. Hands the block back if the number was
     // claimed before.
-    /// Claims the number of a block and files the block, or hands the block back if another bench has claimed the
-    /// number.
+    /// Claims the number of a block and files the block, or hands the block back if the number was claimed before.
     fn try_claim(&mut self, board: &Board, judged: Judged) -> Result<Filed, Judged>
         requires bench { IsOf self.old board.now }
         requires number { judged.number < total_of board.now }

@@ -28,7 +28,7 @@ module _ (given expected : List Row) where
   abbrev pub IsSame : ℕ → Type 0
   IsSame n = slice_get given n ≡ slice_get expected n
 
-  -- the row, counted from 1, is one of the first `taken`, and differs
+  -- if there is a row, counted from 1, it is one of the first `taken`, and differs
   abbrev pub Differs : ℕ → Option ℕ → Type 0
   Differs taken None = Unit {0}
   Differs taken (Some row) = (1 ≤ row) × (row ≤ taken) × (IsSame (row - 1) → ⊥)

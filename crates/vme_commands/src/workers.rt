@@ -69,7 +69,7 @@ impl<'r, R: Threads + Sync> Workers<'r, R> {
     }
 
     /// Reads the next piece of a dump, which ends after white space, or where the dump does. A single worker reads it
-    /// in order, without a thread. It fails if the dump or the binding has a fault, or if memory runs out.
+    /// in order, without a thread. It fails if a fault of the dump is met, or if memory runs out.
     pub fn read<J: ChunkJudge + Send>(
         &self,
         alloc: Global,

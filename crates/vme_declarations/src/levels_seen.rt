@@ -14,12 +14,13 @@ pub const MOST_BITS: u32 = 64;
 /// The greatest number of instants of a dump. With more, the error is want of memory.
 const MOST_INSTANTS: u32 = 268_435_456;
 
-/// Which levels the last 64 bits of a net have had. In both numbers bit k, from the right, is that of the net's bit k.
+/// Which levels the rightmost 64 bits of a net have had. In both numbers bit k, from the right, is that of the net's
+/// bit k.
 #[derive(Clone, Copy)]
 pub(crate) struct NetLevels {
     /// The bits that were Low.
     pub low: u64,
-    /// The bits that were High.
+    /// The bits that were High or z.
     pub high: u64,
 }
 

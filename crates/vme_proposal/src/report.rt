@@ -40,7 +40,7 @@ struct LineGroup {
     count: u8,
 }
 
-/// The group of this name, of `count` lines from `first` on.
+/// The group of this name, of `count` lines from `first` down.
 fn new_group(name: &'static str, first: Line, count: u8) -> LineGroup {
     LineGroup { name, first, count }
 }

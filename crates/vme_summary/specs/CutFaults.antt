@@ -3,7 +3,7 @@ use Rattle.std.specs.Prelude.{◌≡◌, ℕ, ◌<◌, ◌≤◌, ◌⊎◌}
 use Rattle.vme_trace.specs.Blocks.{block_count}
 use Rattle.vme_trace.specs.Trace.{Trace}
 
--- no block may have this many steps
+-- no recording is cut into blocks of `size` steps
 abbrev pub IsBadSize : ℕ → Type 0
 IsBadSize size = (size ≡ 0) ⊎ (65536 < size)
 
