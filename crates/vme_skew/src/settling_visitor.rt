@@ -51,7 +51,7 @@ impl<K: GhostSkew, F: StepVisitor> Model for SettlingVisitor<K, F> {
 }
 
 /// The count with one step more, but at most `MOST_STEPS + 1`.
-fn with_one(count: u32) -> u32
+fn next_count(count: u32) -> u32
     ensures { result ≡ min (count + 1) (capture_limit + 1) }
 {
     if count > MOST_STEPS {
@@ -142,7 +142,7 @@ impl<K: GhostSkew, F: StepVisitor> StepVisitor for SettlingVisitor<K, F> {
         let was_whole = self.is_whole;
         self.is_whole = false;
         let settled = self.settler.take(alloc, &step)?;
-        self.count = with_one(self.count);
+        self.count = next_count(self.count);
         pass_on(&mut self.taker, alloc, settled)?;
         self.is_whole = was_whole;
         Ok(())
