@@ -34,7 +34,8 @@ pub record TablesHaveNodesAtMost (k : ℕ) (all : FileTables) : Type 0 where
   pub acknowledge : HasNodesAtMost 11 k (table_value all.acknowledge)
 
 -- each table agrees with the runs of its monitor from each memory p, over the steps x after the opening levels o; the
--- tables have nodes only if the part has marks (`listing`), and not too many for x; and `all.left` is the levels after x
+-- tables have nodes only if the part has marks (`listing`), and not too many for x; and `all.left` is the levels after
+-- x
 pub record AreTablesOf (listing : Bool) (o : Levels) (x : List Step) (all : FileTables) : Type 0 where
   pub known : AgreesWithRuns listing 4 (phase_place stateless_place) (table_value all.known) (λ p. known_run p o x)
   pub handshake : AgreesWithRuns listing 147 (phase_place memory_place) (table_value all.handshake)

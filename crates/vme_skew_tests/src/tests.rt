@@ -294,8 +294,8 @@ fn complete_at(
     Ok(out)
 }
 
-/// What a visitor passes on of these steps, settled by a skew that is also a parameter of its type, and whether there are
-/// too many. Before these it takes a step of another recording, which `open` drops.
+/// What a visitor passes on of these steps, settled by a skew that is also a parameter of its type, and whether there
+/// are too many. Before these it takes a step of another recording, which `open` drops.
 fn passed_on_by<K: GhostSkew>(
     alloc: Global,
     opening: &Lines,
@@ -404,7 +404,8 @@ fn settles_if_memory_suffices(alloc: Global, rows: &[Row], settled: &[Row]) -> b
         }
 }
 
-/// `tests/memory/run` refuses each allocation in turn: then the error is want of memory, and else the steps are settled.
+/// `tests/memory/run` refuses each allocation in turn: then the error is want of memory, and else the steps are
+/// settled.
 #[test]
 fn want_of_memory_is_the_error(rt: HostRuntime) {
     for (rows, settled) in LARGE.iter() {

@@ -5,8 +5,8 @@ use Rattle.vme_trace.specs.WellFormed.{capture_limit}
 use Rattle.vme_trace.specs.declared.step.Step.{Step}
 use Rattle.vme_summary.specs.JudgedSoFar.{KeepsUp}
 
--- Of the `count` steps that were taken, all but the waiting ones have been judged. `IsPast` says which steps, after which
--- opening, a state of judging has judged; `IsNext`, below, says it of the next state.
+-- Of the `count` steps that were taken, all but the waiting ones have been judged. `IsPast` says which steps, after
+-- which opening, a state of judging has judged; `IsNext`, below, says it of the next state.
 module _ (IsPast : Levels → List Step → Type 0) (count : ℕ) (opening : Levels) (taken waiting : List Step)
     (keeps_up : KeepsUp IsPast count opening taken waiting) (few : count ≤ capture_limit) where
   -- the steps taken are within the limit of a recording

@@ -66,7 +66,8 @@ returns-clause-shows c =
           c.in_ok-go_past-2.ensures.memory c.in_ok-go_past-2.ensures.marks opens counted fits was.handshake
           agrees.handshake;
       stability = HasRun-next stability_run IsRun-stability (opening_phase stability_begin)
-          (phase_place holding_place) 13 (table_value c.args.segment.now.stability) c.args.self.now.stability c.go_past-3.new.self o v x y c.args.steps
+          (phase_place holding_place) 13 (table_value c.args.segment.now.stability) c.args.self.now.stability
+          c.go_past-3.new.self o v x y c.args.steps
           c.in_ok-go_past-3.ensures.memory c.in_ok-go_past-3.ensures.marks opens counted fits was.stability
           agrees.stability;
       grant = HasRun-next grant_run IsRun-grant (opening_phase grant_begin) (phase_place arbitration_place) 35
