@@ -130,8 +130,8 @@ module _ (s t r : SegmentValue) (b : IsOfBoth s t r) where
             counted = rw (joined_steps-both, length-append, ← p.counted, ← q.counted) b.steps;
             known = rw (b.opening, joined_steps-both)
                 (AgreesWithRuns-of_both known_run IsRun-known (phase_place stateless_place) listing 4 s.opening
-                t.opening (joined_steps x) (joined_steps y) s.known t.known r.known opens fits (rw (← p.counted) b.known)
-                p.known q.known);
+                t.opening (joined_steps x) (joined_steps y) s.known t.known r.known opens fits
+                (rw (← p.counted) b.known) p.known q.known);
             handshake = rw (b.opening, joined_steps-both)
                 (AgreesWithRuns-of_both handshake_run IsRun-handshake
                 (phase_place memory_place) listing 147 s.opening t.opening
