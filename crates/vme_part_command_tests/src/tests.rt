@@ -1,15 +1,13 @@
 //! A read cycle in three files.
 
-ghost use Rattle.std.specs.Prelude.{None};
-
 use std::alloc::{AllocError, Global};
-use std::io::{self, Error, ErrorKind, Read};
 use vme_part_command::{
     NamedPart, PartOptions, list_whole, tell_whole, write_joined, write_part_of,
 };
 use vme_stream::{Bytes, Io};
 use vme_test_recordings::BUS_BINDING;
-use vme_trace::{Failed, Sink, Source};
+use vme_test_streams::{LimitedSink, PieceReader, WantedAnswer, has_answered};
+use vme_trace::Source;
 
 /// The definitions of a dump with the variables of `BUS_BINDING`. Each body below follows them.
 const HEADER: &str = "$timescale 1 ns $end
@@ -57,95 +55,6 @@ transfer 3 of 2 read DTACK 4 close 5
 verdict conforming
 ";
 
-/// A sink that keeps what is written. A write fails once `room` bytes or more are kept.
-#[derive(Drop)]
-struct Page {
-    bytes: Vec<u8>,
-    room: usize,
-    failures: u64,
-}
-
-impl Page {
-    fn new(alloc: Global, room: usize) -> Page {
-        Page {
-            bytes: Vec::new(alloc),
-            room,
-            failures: 0,
-        }
-    }
-
-    /// A sink whose memory is allocated before the first write.
-    fn with_room(alloc: Global, room: usize) -> Result<Page, AllocError> {
-        Ok(Page {
-            bytes: Vec::with_capacity(alloc, room)?,
-            room,
-            failures: 0,
-        })
-    }
-}
-
-impl Sink for Page {
-    ghost writing = { λ page. record { taken = None; failures = page.failures } };
-
-    fn write(&mut self, bytes: &[u8]) -> Result<usize, Failed> {
-        if self.bytes.len() < self.room && self.bytes.extend_from_slice(bytes).is_ok() {
-            return Ok(bytes.len());
-        }
-        match self.failures.checked_add(1) {
-            Some(failures) => {
-                self.failures = failures;
-                Err(Failed)
-            }
-            // no further failure can be counted
-            None => Ok(bytes.len()),
-        }
-    }
-}
-
-/// A reader that gives the bytes `left`, a few at a time, and then fails.
-#[derive(Drop)]
-struct FailingReader<'a> {
-    left: &'a [u8],
-}
-
-impl Read for FailingReader<'_> {
-    fn read(&mut self, buffer: &mut [u8]) -> io::Result<usize> {
-        if self.left.is_empty() {
-            return Err(Error::from(ErrorKind::Other));
-        }
-        let count = self.left.len().min(buffer.len()).min(7);
-        buffer[..count].copy_from_slice(&self.left[..count]);
-        self.left = &self.left[count..];
-        Ok(count)
-    }
-}
-
-/// A reader that gives a few bytes at a time.
-#[derive(Drop)]
-struct ShortReader<'a> {
-    left: &'a [u8],
-}
-
-impl Read for ShortReader<'_> {
-    fn read(&mut self, buffer: &mut [u8]) -> io::Result<usize> {
-        let count = self.left.len().min(buffer.len()).min(7);
-        buffer[..count].copy_from_slice(&self.left[..count]);
-        self.left = &self.left[count..];
-        Ok(count)
-    }
-}
-
-/// The texts on standard output and on standard error, and the status.
-type WantedAnswer<'a> = (&'a str, &'a str, u8);
-
-/// Whether the outputs and the status are `wanted`.
-fn answers_with(out: &Page, err: &Page, status: u8, wanted: WantedAnswer<'_>) -> bool {
-    let (stdout, stderr, wanted_status) = wanted;
-    out.bytes.as_slice() == stdout.as_bytes()
-        && err.bytes.as_slice() == stderr.as_bytes()
-        && status == wanted_status
-}
-
 /// The dump with the body `body`.
 fn dump_of(alloc: Global, body: &str) -> Result<String, AllocError> {
     let mut dump = String::from_str(alloc, HEADER)?;
@@ -160,8 +69,8 @@ fn part_from<D: Source>(
     options: PartOptions,
     source: &mut D,
 ) -> Option<Vec<u8>> {
-    let mut out = Page::new(alloc, 1_000_000);
-    let mut err = Page::new(alloc, 1000);
+    let mut out = LimitedSink::new(alloc, 1_000_000);
+    let mut err = LimitedSink::new(alloc, 1000);
     let status = write_part_of(
         alloc,
         options,
@@ -218,8 +127,8 @@ fn inputs_of<'a>(alloc: Global, parts: &'a [&'a [u8]]) -> Option<Vec<NamedPart<'
 /// The part joined from `parts`, if one is written.
 fn joined(alloc: Global, parts: &[&[u8]]) -> Option<Vec<u8>> {
     let mut inputs = inputs_of(alloc, parts)?;
-    let mut out = Page::new(alloc, 1_000_000);
-    let mut err = Page::new(alloc, 1000);
+    let mut out = LimitedSink::new(alloc, 1_000_000);
+    let mut err = LimitedSink::new(alloc, 1000);
     let status = write_joined(alloc, inputs.as_mut_slice(), &mut out, &mut err);
     if status == 0 && err.bytes.is_empty() {
         Some(out.bytes)
@@ -228,7 +137,7 @@ fn joined(alloc: Global, parts: &[&[u8]]) -> Option<Vec<u8>> {
     }
 }
 
-/// Whether the command on the inputs writes `wanted`, to a page with room for `room` bytes.
+/// Whether the command on the inputs writes `wanted`, to a sink with room for `room` bytes.
 fn answers<P: Source>(
     alloc: Global,
     inputs: &mut [NamedPart<'_, P>],
@@ -237,14 +146,14 @@ fn answers<P: Source>(
     room: usize,
     wanted: WantedAnswer<'_>,
 ) -> bool {
-    let mut out = Page::new(alloc, room);
-    let mut err = Page::new(alloc, 1000);
+    let mut out = LimitedSink::new(alloc, room);
+    let mut err = LimitedSink::new(alloc, 1000);
     let status = if listing {
         list_whole(alloc, inputs, files, &mut out, &mut err)
     } else {
         tell_whole(alloc, inputs, files, &mut out, &mut err)
     };
-    answers_with(&out, &err, status, wanted)
+    has_answered(&out, &err, status, wanted)
 }
 
 /// Whether the command on `parts` writes `wanted`.
@@ -318,9 +227,7 @@ fn part_by_reads(alloc: Global, number: u32, body: &str) -> Option<Vec<u8>> {
         number,
         listing: true,
     };
-    let mut source = Io::new(ShortReader {
-        left: dump.as_bytes(),
-    });
+    let mut source = Io::new(PieceReader::new(dump.as_bytes(), 7));
     part_from(alloc, BUS_BINDING, options, &mut source)
 }
 
@@ -425,8 +332,8 @@ fn a_torn_file_is_told(rt: HostRuntime) {
 
 /// Whether `dump` is refused with the line `line`.
 fn is_refused(alloc: Global, dump: &str, line: &str) -> bool {
-    let mut out = Page::new(alloc, 1000);
-    let mut err = Page::new(alloc, 1000);
+    let mut out = LimitedSink::new(alloc, 1000);
+    let mut err = LimitedSink::new(alloc, 1000);
     let status = write_part_of(
         alloc,
         PartOptions {
@@ -438,7 +345,7 @@ fn is_refused(alloc: Global, dump: &str, line: &str) -> bool {
         &mut out,
         &mut err,
     );
-    answers_with(&out, &err, status, ("", line, 3))
+    has_answered(&out, &err, status, ("", line, 3))
 }
 
 /// Whether an empty file is refused, and one that has only definitions is judged. Such a file has no steps and no
@@ -549,7 +456,7 @@ fn tells_failed_read(alloc: Global, part: &[u8], place: usize) -> Option<bool> {
     let left = part.get(..place)?;
     let mut inputs = [NamedPart {
         name: b"a.part",
-        part: Io::new(FailingReader { left }),
+        part: Io::new(PieceReader::torn(left, 7)),
     }];
     let wanted = ("", "vmecheck: a.part: cannot read\n", 3);
     Some(answers(alloc, &mut inputs, None, false, 1000, wanted))
@@ -567,10 +474,10 @@ fn refuses_in_one_line(alloc: Global) -> bool {
         name: b"a\n\x1B.part",
         part: Bytes::new("vmecheck".as_bytes()),
     }];
-    let mut out = Page::new(alloc, 1000);
-    let mut err = Page::new(alloc, 1000);
+    let mut out = LimitedSink::new(alloc, 1000);
+    let mut err = LimitedSink::new(alloc, 1000);
     let status = write_joined(alloc, &mut again, &mut out, &mut err);
-    is_told && answers_with(&out, &err, status, wanted)
+    is_told && has_answered(&out, &err, status, wanted)
 }
 
 #[test]
@@ -619,8 +526,8 @@ fn want_of_memory_is_told(rt: HostRuntime) {
     let alloc = rt.alloc();
     let (Ok(dump), Ok(mut out), Ok(mut err)) = (
         dump_of(alloc, SECOND),
-        Page::with_room(alloc, 100_000),
-        Page::with_room(alloc, 100),
+        LimitedSink::with_capacity(alloc, 100_000),
+        LimitedSink::with_capacity(alloc, 100),
     ) else {
         return;
     };
@@ -637,7 +544,7 @@ fn want_of_memory_is_told(rt: HostRuntime) {
         &mut err,
     );
     let is_told = if status == 4 {
-        answers_with(&out, &err, status, ("", "vmecheck: out of memory\n", 4))
+        has_answered(&out, &err, status, ("", "vmecheck: out of memory\n", 4))
     } else {
         status == 0 && out.bytes.as_slice().starts_with(b"vmepart1") && err.bytes.is_empty()
     };
