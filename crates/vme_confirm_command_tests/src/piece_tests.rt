@@ -1,54 +1,21 @@
 //! Inputs that come in pieces, readers that fail, and outputs that are full.
 
-use crate::tests::{BINDING, DUMP, LISTING, WantedConfirmation, confirms_from};
+use crate::tests::{BINDING, DUMP, LISTING, confirms_from};
 use std::alloc::Global;
-use std::io::{self, Error, ErrorKind, Read};
+use std::io::{self, Read};
 use vme_stream::{Bytes, Io};
+use vme_test_streams::{PieceReader, WantedAnswer};
 use vme_trace::Source;
 
-/// A reader that gives at most `piece` bytes a read, is interrupted before each, and ends or fails after the last.
-#[derive(Drop)]
-struct Pieces<'a> {
-    left: &'a [u8],
-    piece: usize,
-    fails: bool,
-    interrupted: bool,
-}
-
-impl Read for Pieces<'_> {
-    fn read(&mut self, buffer: &mut [u8]) -> io::Result<usize> {
-        self.interrupted = !self.interrupted;
-        if self.interrupted {
-            return Err(Error::from(ErrorKind::Interrupted));
-        }
-        if self.left.is_empty() && self.fails {
-            return Err(Error::from(ErrorKind::Other));
-        }
-        let count = self.left.len().min(buffer.len()).min(self.piece);
-        buffer[..count].copy_from_slice(&self.left[..count]);
-        self.left = &self.left[count..];
-        Ok(count)
-    }
-}
-
 /// A source of a text, at most `piece` bytes a read.
-fn in_pieces(text: &str, piece: usize) -> Io<Pieces<'_>> {
-    Io::new(Pieces {
-        left: text.as_bytes(),
-        piece,
-        fails: false,
-        interrupted: false,
-    })
+fn in_pieces(text: &str, piece: usize) -> Io<PieceReader<'_>> {
+    Io::new(PieceReader::new(text.as_bytes(), piece))
 }
 
 /// A source of the bytes up to `place`, at most `piece` a read, that fails there.
-fn torn_at(text: &str, place: usize, piece: usize) -> Io<Pieces<'_>> {
-    Io::new(Pieces {
-        left: text.as_bytes().get(..place).unwrap_or_default(),
-        piece,
-        fails: true,
-        interrupted: false,
-    })
+fn torn_at(text: &str, place: usize, piece: usize) -> Io<PieceReader<'_>> {
+    let front = text.as_bytes().get(..place).unwrap_or_default();
+    Io::new(PieceReader::torn(front, piece))
 }
 
 /// A reader of a header and `left` line feeds.
@@ -78,7 +45,7 @@ fn confirms<D: Source + Drop, L: Source + Drop>(
     alloc: Global,
     mut dump: D,
     listing: L,
-    wanted: WantedConfirmation<'_>,
+    wanted: WantedAnswer<'_>,
 ) -> bool {
     confirms_from(alloc, BINDING, &mut dump, listing, 0, 1000, wanted)
 }

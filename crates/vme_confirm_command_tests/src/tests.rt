@@ -1,12 +1,10 @@
 //! The answer to whole texts.
 
-ghost use Rattle.std.specs.Prelude.{None};
-
-use std::alloc::{AllocError, Global};
-use std::io::{self, Error, Read};
+use std::alloc::Global;
 use vme_confirm_command::confirm::confirm_with;
 use vme_stream::{Bytes, Io};
-use vme_trace::{Failed, Sink, Source};
+use vme_test_streams::{LimitedSink, PieceReader, WantedAnswer, has_answered};
+use vme_trace::Source;
 
 pub(crate) const BINDING: &[u8] = b"slots 1
 AS = bus.AS
@@ -64,72 +62,7 @@ transfer 3 of 2 read DTACK 4 close 5
 verdict conforming
 ";
 
-/// A sink that holds what it took, up to a count of bytes at which writes fail.
-#[derive(Drop)]
-struct Page {
-    bytes: Vec<u8>,
-    room: usize,
-    failures: u64,
-}
-
-impl Page {
-    fn new(alloc: Global, room: usize) -> Page {
-        Page {
-            bytes: Vec::new(alloc),
-            room,
-            failures: 0,
-        }
-    }
-
-    /// A sink whose memory is taken before the first write.
-    fn with_room(alloc: Global, room: usize) -> Result<Page, AllocError> {
-        Ok(Page {
-            bytes: Vec::with_capacity(alloc, room)?,
-            room,
-            failures: 0,
-        })
-    }
-}
-
-impl Sink for Page {
-    ghost writing = { λ page. record { taken = None; failures = page.failures } };
-
-    fn write(&mut self, bytes: &[u8]) -> Result<usize, Failed> {
-        if self.bytes.len() < self.room && self.bytes.extend_from_slice(bytes).is_ok() {
-            return Ok(bytes.len());
-        }
-        match self.failures.checked_add(1) {
-            Some(failures) => {
-                self.failures = failures;
-                Err(Failed)
-            }
-            None => Ok(bytes.len()),
-        }
-    }
-}
-
-/// A reader whose reads all fail.
-#[derive(Drop)]
-struct Broken;
-
-impl Read for Broken {
-    fn read(&mut self, _buffer: &mut [u8]) -> io::Result<usize> {
-        Err(Error::from(io::ErrorKind::Other))
-    }
-}
-
-/// What a comparison writes to `out` and to `err`, and its status.
-pub(crate) type WantedConfirmation<'a> = (&'a str, &'a str, u8);
-
-/// Whether this was written, with this status.
-fn has_told(out: &Page, err: &Page, status: u8, wanted: WantedConfirmation<'_>) -> bool {
-    let (text, told, ended) = wanted;
-    out.bytes.as_slice() == text.as_bytes()
-        && err.bytes.as_slice() == told.as_bytes()
-        && status == ended
-}
-
-/// Whether the comparison of a listing with that of a dump gives this, on a page with `room` bytes.
+/// Whether the comparison of a listing with that of a dump gives this, written to a sink with room for `room` bytes.
 pub(crate) fn confirms_from<D: Source, L: Source + Drop>(
     alloc: Global,
     binding: &[u8],
@@ -137,10 +70,10 @@ pub(crate) fn confirms_from<D: Source, L: Source + Drop>(
     listing: L,
     skew: u64,
     room: usize,
-    wanted: WantedConfirmation<'_>,
+    wanted: WantedAnswer<'_>,
 ) -> bool {
-    let mut out = Page::new(alloc, room);
-    let mut err = Page::new(alloc, 1000);
+    let mut out = LimitedSink::new(alloc, room);
+    let mut err = LimitedSink::new(alloc, 1000);
     let (status, _) = confirm_with(
         alloc,
         &mut Bytes::new(binding),
@@ -150,7 +83,7 @@ pub(crate) fn confirms_from<D: Source, L: Source + Drop>(
         &mut out,
         &mut err,
     );
-    has_told(&out, &err, status, wanted)
+    has_answered(&out, &err, status, wanted)
 }
 
 /// Whether the comparison of a listing with that of a dump gives this.
@@ -160,7 +93,7 @@ fn confirms<L: Source + Drop>(
     dump: &str,
     listing: L,
     skew: u64,
-    wanted: WantedConfirmation<'_>,
+    wanted: WantedAnswer<'_>,
 ) -> bool {
     let mut dump = Bytes::new(dump.as_bytes());
     confirms_from(alloc, binding, &mut dump, listing, skew, 1000, wanted)
@@ -171,7 +104,7 @@ fn confirms_other_listing(
     alloc: Global,
     old: &str,
     new: &str,
-    wanted: WantedConfirmation<'_>,
+    wanted: WantedAnswer<'_>,
 ) -> Option<bool> {
     let listing = LISTING.replace(alloc, old, new).ok()?;
     let listing = Bytes::new(listing.as_bytes());
@@ -184,7 +117,7 @@ fn confirms_other_dump(
     old: &str,
     new: &str,
     listing: &str,
-    wanted: WantedConfirmation<'_>,
+    wanted: WantedAnswer<'_>,
 ) -> Option<bool> {
     let dump = DUMP.replace(alloc, old, new).ok()?;
     let listing = Bytes::new(listing.as_bytes());
@@ -300,7 +233,7 @@ static TOLD_BEFORE: [(&[u8], &str, &str); 4] = [
 #[test]
 fn listing_is_told_last(rt: HostRuntime) {
     for (binding, dump, text) in TOLD_BEFORE.iter() {
-        let listing = Io::new(Broken);
+        let listing = Io::new(PieceReader::torn(b"", 1));
         let wanted = ("", *text, 3);
         assert!(rt;
             confirms(rt.alloc(), binding, dump, listing, 0, wanted),
@@ -344,8 +277,8 @@ fn binding_that_makes_no_recording_is_told_last(rt: HostRuntime) {
 #[test]
 fn want_of_memory_is_told(rt: HostRuntime) {
     let (Ok(mut out), Ok(mut err)) = (
-        Page::with_room(rt.alloc(), 100),
-        Page::with_room(rt.alloc(), 100),
+        LimitedSink::with_capacity(rt.alloc(), 100),
+        LimitedSink::with_capacity(rt.alloc(), 100),
     ) else {
         return;
     };
@@ -363,7 +296,7 @@ fn want_of_memory_is_told(rt: HostRuntime) {
     } else {
         ("confirmed\n", "", 0)
     };
-    assert!(rt; has_told(&out, &err, ended, wanted));
+    assert!(rt; has_answered(&out, &err, ended, wanted));
 }
 
 /// A dump in which the answer is recorded before the strobe.
