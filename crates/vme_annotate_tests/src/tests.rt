@@ -1,5 +1,3 @@
-ghost use Rattle.std.specs.Prelude.{None};
-
 use std::alloc::{AllocError, Global};
 use std::process::Abort;
 use std::thread::Threads;
@@ -9,7 +7,7 @@ use vme_commands::list::list;
 use vme_commands::{BLOCK, BUILT_IN};
 use vme_confirm_command::confirm::confirm_with;
 use vme_stream::Bytes;
-use vme_trace::{Failed, Sink};
+use vme_test_streams::{LimitedSink, has_answered};
 
 /// The definitions without their end, `END`, which comes before a body.
 const HEAD: &str = "$timescale 1 ns $end\n$scope module bus $end\n\
@@ -163,64 +161,18 @@ $var string 1 # transfer $end $var string 1 $ verdict $end $upscope $end ",
     ),
 ];
 
-/// A sink that holds what it took, up to a count of bytes at which writes fail.
-#[derive(Drop)]
-struct Page {
-    bytes: Vec<u8>,
-    room: usize,
-    failures: u64,
-}
-
-impl Page {
-    fn new(alloc: Global, room: usize) -> Page {
-        Page {
-            bytes: Vec::new(alloc),
-            room,
-            failures: 0,
-        }
-    }
-
-    /// A sink whose memory is taken before the first write.
-    fn with_room(alloc: Global, room: usize) -> Result<Page, AllocError> {
-        Ok(Page {
-            bytes: Vec::with_capacity(alloc, room)?,
-            room,
-            failures: 0,
-        })
-    }
-}
-
-impl Sink for Page {
-    ghost writing = { λ page. record { taken = None; failures = page.failures } };
-
-    fn write(&mut self, bytes: &[u8]) -> Result<usize, Failed> {
-        if self.bytes.len() < self.room && self.bytes.extend_from_slice(bytes).is_ok() {
-            return Ok(bytes.len());
-        }
-        match self.failures.checked_add(1) {
-            Some(failures) => {
-                self.failures = failures;
-                Err(Failed)
-            }
-            None => Ok(bytes.len()),
-        }
-    }
-}
-
 /// What a command wrote to `out` and to `err`, and its status.
 #[derive(Drop)]
 struct Answer {
-    out: Page,
-    err: Page,
+    out: LimitedSink,
+    err: LimitedSink,
     status: u8,
 }
 
 impl Answer {
     /// Whether `text` was written to `out` and `told` to `err`, with this status.
     fn is(&self, text: &str, told: &str, status: u8) -> bool {
-        self.out.bytes.as_slice() == text.as_bytes()
-            && self.err.bytes.as_slice() == told.as_bytes()
-            && self.status == status
+        has_answered(&self.out, &self.err, self.status, (text, told, status))
     }
 
     /// Whether what was written to `out` begins with `front`, nothing was written to `err`, and the status is 0.
@@ -240,10 +192,10 @@ fn text_of(alloc: Global, parts: &[&str]) -> Result<String, AllocError> {
     Ok(text)
 }
 
-/// What annotating a dump by a binding writes, to a page with `room` bytes.
+/// What annotating a dump by a binding writes, to a sink with room for `room` bytes.
 fn annotated(alloc: Global, binding: &[u8], dump: &[u8], skew: u64, room: usize) -> Answer {
-    let mut out = Page::new(alloc, room);
-    let mut err = Page::new(alloc, 1000);
+    let mut out = LimitedSink::new(alloc, room);
+    let mut err = LimitedSink::new(alloc, 1000);
     let status = annotate(
         alloc,
         &mut Bytes::new(binding),
@@ -255,10 +207,10 @@ fn annotated(alloc: Global, binding: &[u8], dump: &[u8], skew: u64, room: usize)
     Answer { out, err, status }
 }
 
-/// What listing a dump by a binding with times writes, to a page with `room` bytes.
+/// What listing a dump by a binding with times writes, to a sink with room for `room` bytes.
 fn timed(alloc: Global, binding: &[u8], dump: &[u8], room: usize) -> Answer {
-    let mut out = Page::new(alloc, room);
-    let mut err = Page::new(alloc, 1000);
+    let mut out = LimitedSink::new(alloc, room);
+    let mut err = LimitedSink::new(alloc, 1000);
     let status = list_times(
         alloc,
         &mut Bytes::new(binding),
@@ -273,8 +225,8 @@ fn timed(alloc: Global, binding: &[u8], dump: &[u8], room: usize) -> Answer {
 
 /// What listing a dump writes.
 fn listed<R: AllocGlobal + Threads + Sync>(rt: &R, dump: &[u8]) -> Answer {
-    let mut out = Page::new(rt.alloc(), 10_000);
-    let mut err = Page::new(rt.alloc(), 1000);
+    let mut out = LimitedSink::new(rt.alloc(), 10_000);
+    let mut err = LimitedSink::new(rt.alloc(), 1000);
     let status = list(
         rt,
         rt.alloc(),
@@ -453,8 +405,8 @@ verdict broken H4 3@20 DTACK\n",
 
 /// Whether `listing` is refused as a listing of a dump, because of its header.
 fn is_no_listing(alloc: Global, dump: &[u8], listing: &[u8]) -> bool {
-    let mut out = Page::new(alloc, 1000);
-    let mut err = Page::new(alloc, 1000);
+    let mut out = LimitedSink::new(alloc, 1000);
+    let mut err = LimitedSink::new(alloc, 1000);
     let (status, _) = confirm_with(
         alloc,
         &mut Bytes::new(BUILT_IN),
@@ -519,7 +471,8 @@ fn long_dump(alloc: Global) -> Result<String, AllocError> {
     Ok(dump)
 }
 
-/// Whether, of the long dump, annotated, a prefix is written to a page with `room` bytes, and the failure is reported.
+/// Whether, of the long dump, annotated, a prefix is written to a sink with room for `room` bytes, and the failure is
+/// reported.
 fn writes_a_front(alloc: Global, room: usize) -> Option<bool> {
     let dump = long_dump(alloc).ok()?;
     let whole = annotated(alloc, BUILT_IN, dump.as_bytes(), 0, 100_000);
@@ -560,8 +513,8 @@ fn want_of_memory_is_told(rt: HostRuntime) {
     let (Ok(dump), Ok(wanted), Ok(mut out), Ok(mut err)) = (
         text_of(rt.alloc(), &[HEAD, END, BODY]),
         text_of(rt.alloc(), &[HEAD, DECLARED, END, BODIES[0].1]),
-        Page::with_room(rt.alloc(), 10_000),
-        Page::with_room(rt.alloc(), 100),
+        LimitedSink::with_capacity(rt.alloc(), 10_000),
+        LimitedSink::with_capacity(rt.alloc(), 100),
     ) else {
         return;
     };
