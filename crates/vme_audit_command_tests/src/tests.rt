@@ -1,11 +1,9 @@
-ghost use Rattle.std.specs.Prelude.{None};
-
-use std::alloc::{AllocError, Global};
-use std::io::{self, Error, ErrorKind, Read};
+use std::alloc::Global;
 use vme_audit::Allowance;
 use vme_audit_command::{AuditOptions, NamedDump, TestSuite, audit, junit_file};
 use vme_stream::{Bytes, Io};
-use vme_trace::{Failed, Rule, Sink};
+use vme_test_streams::{LimitedSink, PieceReader};
+use vme_trace::Rule;
 
 /// A binding of the lines of the data transfer bus; no other line moves.
 const BINDING: &[u8] = b"slots 1
@@ -80,79 +78,6 @@ fn quietly<'a>(allowances: &'a [Allowance]) -> AuditOptions<'a> {
     }
 }
 
-/// A sink that holds the bytes written to it. Writes fail once `room` bytes are held.
-#[derive(Drop)]
-struct Page {
-    bytes: Vec<u8>,
-    room: usize,
-    failures: u64,
-}
-
-impl Page {
-    fn new(alloc: Global, room: usize) -> Page {
-        Page {
-            bytes: Vec::new(alloc),
-            room,
-            failures: 0,
-        }
-    }
-
-    /// A sink whose memory is taken before the first write.
-    fn with_room(alloc: Global, room: usize) -> Result<Page, AllocError> {
-        Ok(Page {
-            bytes: Vec::with_capacity(alloc, room)?,
-            room,
-            failures: 0,
-        })
-    }
-}
-
-impl Sink for Page {
-    ghost writing = { λ page. record { taken = None; failures = page.failures } };
-
-    fn write(&mut self, bytes: &[u8]) -> Result<usize, Failed> {
-        if self.bytes.len() < self.room {
-            let count = bytes.len().min(self.room - self.bytes.len());
-            if self.bytes.extend_from_slice(&bytes[..count]).is_ok() {
-                return Ok(count);
-            }
-        }
-        match self.failures.checked_add(1) {
-            Some(failures) => {
-                self.failures = failures;
-                Err(Failed)
-            }
-            None => Ok(bytes.len()),
-        }
-    }
-}
-
-/// A reader of `left`, and of `rest` after it. A read gives at most `portion` bytes. If `is_torn`, reading fails
-/// after the last byte.
-#[derive(Drop)]
-struct PortionReader<'a> {
-    left: &'a [u8],
-    rest: &'a [u8],
-    portion: usize,
-    is_torn: bool,
-}
-
-impl Read for PortionReader<'_> {
-    fn read(&mut self, buffer: &mut [u8]) -> io::Result<usize> {
-        if self.left.is_empty() {
-            self.left = self.rest;
-            self.rest = &[];
-        }
-        if self.is_torn && self.left.is_empty() {
-            return Err(Error::from(ErrorKind::Other));
-        }
-        let count = self.left.len().min(buffer.len()).min(self.portion);
-        buffer[..count].copy_from_slice(&self.left[..count]);
-        self.left = &self.left[count..];
-        Ok(count)
-    }
-}
-
 /// How a dump is read.
 #[derive(Clone, Copy)]
 struct DumpFeed {
@@ -165,19 +90,19 @@ const WHOLE: DumpFeed = DumpFeed {
     is_torn: false,
 };
 
-/// A dump that a `PortionReader` reads.
-type ReadDump<'a> = NamedDump<'a, Io<PortionReader<'a>>>;
+/// A dump that a `PieceReader` reads.
+type ReadDump<'a> = NamedDump<'a, Io<PieceReader<'a>>>;
 
 /// A dump with the definitions `HEAD`, and `body` after them.
 fn dump_of<'a>(name: &'a [u8], body: &'a str, feed: DumpFeed) -> ReadDump<'a> {
+    let head = if feed.is_torn {
+        PieceReader::torn(HEAD.as_bytes(), feed.portion)
+    } else {
+        PieceReader::new(HEAD.as_bytes(), feed.portion)
+    };
     NamedDump {
         name,
-        dump: Io::new(PortionReader {
-            left: HEAD.as_bytes(),
-            rest: body.as_bytes(),
-            portion: feed.portion,
-            is_torn: feed.is_torn,
-        }),
+        dump: Io::new(head.then(body.as_bytes())),
     }
 }
 
@@ -222,8 +147,8 @@ fn audits(
     room: usize,
     wanted: (bool, WantedAudit<'_>),
 ) -> bool {
-    let mut out = Page::new(alloc, room);
-    let mut err = Page::new(alloc, 10_000);
+    let mut out = LimitedSink::new(alloc, room);
+    let mut err = LimitedSink::new(alloc, 10_000);
     let (is_audited, status) = audit(
         alloc,
         &mut Bytes::new(binding),
@@ -609,8 +534,8 @@ fn is_outcome_or_short(out: &[u8], err: &[u8], status: u8, wanted: WantedAudit<'
 fn is_full_or_short_in(
     alloc: Global,
     body: &str,
-    out: &mut Page,
-    err: &mut Page,
+    out: &mut LimitedSink,
+    err: &mut LimitedSink,
     wanted: WantedAudit<'_>,
 ) -> bool {
     let mut suite = TestSuite::new(alloc, false);
@@ -629,8 +554,13 @@ fn is_full_or_short_in(
 
 /// Whether the audit of a dump with this body gives the expected result, or is short for want of memory, with `out` as
 /// a sink, or there is no memory for the other sink.
-fn is_full_or_short_by(alloc: Global, body: &str, out: &mut Page, wanted: WantedAudit<'_>) -> bool {
-    match Page::with_room(alloc, 1_000) {
+fn is_full_or_short_by(
+    alloc: Global,
+    body: &str,
+    out: &mut LimitedSink,
+    wanted: WantedAudit<'_>,
+) -> bool {
+    match LimitedSink::with_capacity(alloc, 1_000) {
         Ok(mut err) => is_full_or_short_in(alloc, body, out, &mut err, wanted),
         Err(_) => true,
     }
@@ -639,7 +569,7 @@ fn is_full_or_short_by(alloc: Global, body: &str, out: &mut Page, wanted: Wanted
 /// Whether the audit of a dump with this body gives the expected result, or is short for want of memory, or there is no
 /// memory for the sinks.
 fn is_full_or_short(alloc: Global, body: &str, wanted: WantedAudit<'_>) -> bool {
-    match Page::with_room(alloc, 1_000) {
+    match LimitedSink::with_capacity(alloc, 1_000) {
         Ok(mut out) => is_full_or_short_by(alloc, body, &mut out, wanted),
         Err(_) => true,
     }
