@@ -1,6 +1,6 @@
 //! Two pods on threads of their own, and verdicts by workers.
 
-ghost use Rattle.std.specs.Prelude.{◌≤◌, IfSome, None};
+ghost use Rattle.std.specs.Prelude.{◌≤◌, IfSome};
 ghost use Rattle.vme_board.specs.Benches.{IsOf};
 
 use std::alloc::Global;
@@ -13,7 +13,8 @@ use vme_pod_check::{
 };
 use vme_stream::{Bytes, Refusal, binding_in, recorded_in};
 use vme_summary::Judged;
-use vme_trace::{Block, Capture, Failed, Sink, Verdict};
+use vme_test_streams::{LimitedSink, WantedAnswer, has_answered};
+use vme_trace::{Block, Capture, Verdict};
 
 const BINDING: &[u8] = b"slots 1
 AS = bus.AS
@@ -95,49 +96,6 @@ fn recorded_read(alloc: Global) -> Option<Capture> {
     recorded_in(alloc, &binding, READ).ok()?.ok()
 }
 
-/// A sink that keeps what is written, as long as what it has kept is shorter than its room.
-#[derive(Drop)]
-struct Page {
-    bytes: Vec<u8>,
-    room: usize,
-    failures: u64,
-}
-
-impl Page {
-    fn new(alloc: Global, room: usize) -> Page {
-        Page {
-            bytes: Vec::new(alloc),
-            room,
-            failures: 0,
-        }
-    }
-}
-
-impl Sink for Page {
-    ghost writing = { λ page. record { taken = None; failures = page.failures } };
-
-    fn write(&mut self, bytes: &[u8]) -> Result<usize, Failed> {
-        if self.bytes.len() < self.room && self.bytes.extend_from_slice(bytes).is_ok() {
-            return Ok(bytes.len());
-        }
-        match self.failures.checked_add(1) {
-            Some(failures) => {
-                self.failures = failures;
-                Err(Failed)
-            }
-            None => Ok(bytes.len()),
-        }
-    }
-}
-
-/// The line that a check writes, on standard output or on standard error, and its status.
-#[derive(Clone, Copy)]
-struct ToldLine {
-    out: &'static str,
-    err: &'static str,
-    status: u8,
-}
-
 /// Whether a check of the inputs writes `told`, to a standard output with the room `room`. None if memory runs out.
 fn tells_once<R: Threads + Wait + Sync>(
     rt: &R,
@@ -145,13 +103,13 @@ fn tells_once<R: Threads + Wait + Sync>(
     inputs: (&[u8], &[u8]),
     plan: Plan,
     room: usize,
-    told: ToldLine,
+    told: WantedAnswer<'_>,
 ) -> Option<bool>
     requires block { (1 ≤ plan.block) × (plan.block ≤ 65536) }
     requires workers { (1 ≤ plan.workers) × (plan.workers ≤ 64) }
 {
-    let mut out = Page::new(alloc, room);
-    let mut err = Page::new(alloc, 1000);
+    let mut out = LimitedSink::new(alloc, room);
+    let mut err = LimitedSink::new(alloc, 1000);
     let status = check_by_pods(
         rt,
         alloc,
@@ -161,12 +119,10 @@ fn tells_once<R: Threads + Wait + Sync>(
         &mut out,
         &mut err,
     );
-    let is_out = out.bytes.as_slice() == told.out.as_bytes();
-    let is_err = err.bytes.as_slice() == told.err.as_bytes();
     if status == 4 {
         None
     } else {
-        Some(is_out && is_err && status == told.status)
+        Some(has_answered(&out, &err, status, told))
     }
 }
 
@@ -177,7 +133,7 @@ fn tells<R: Threads + Wait + Sync>(
     inputs: (&[u8], &[u8]),
     plan: Plan,
     room: usize,
-    told: ToldLine,
+    told: WantedAnswer<'_>,
 ) -> bool
     requires block { (1 ≤ plan.block) × (plan.block ≤ 65536) }
     requires workers { (1 ≤ plan.workers) × (plan.workers ≤ 64) }
@@ -200,7 +156,7 @@ fn tells_by<R: Threads + Wait + Sync>(
     dump: &[u8],
     share: (u32, u32),
     seed: Option<u64>,
-    told: ToldLine,
+    told: WantedAnswer<'_>,
 ) -> bool {
     let (block, workers) = share;
     if block < 1 || 65536 < block || workers < 1 || 64 < workers {
@@ -219,7 +175,7 @@ fn plans_tell<R: Threads + Wait + Sync>(
     rt: &R,
     alloc: Global,
     dump: &[u8],
-    told: ToldLine,
+    told: WantedAnswer<'_>,
 ) -> bool {
     for share in SHARES.iter() {
         if !tells_by(rt, alloc, dump, *share, None, told) {
@@ -236,21 +192,13 @@ fn plans_tell<R: Threads + Wait + Sync>(
 
 #[test]
 fn plans_change_nothing(rt: HostRuntime) {
-    let conforming = ToldLine {
-        out: "conforming\n",
-        err: "",
-        status: 0,
-    };
+    let conforming = ("conforming\n", "", 0);
     assert!(rt; plans_tell(&rt, rt.alloc(), READ, conforming));
 }
 
 #[test]
 fn plans_change_no_break(rt: HostRuntime) {
-    let broken = ToldLine {
-        out: "broken H4 at instant 3 time 20 line DTACK\n",
-        err: "",
-        status: 1,
-    };
+    let broken = ("broken H4 at instant 3 time 20 line DTACK\n", "", 1);
     assert!(rt; plans_tell(&rt, rt.alloc(), UNSTROBED, broken));
 }
 
@@ -433,14 +381,9 @@ fn is_refused<R: Threads + Wait + Sync>(
     rt: &R,
     alloc: Global,
     inputs: (&[u8], &[u8]),
-    text: &'static str,
+    text: &str,
 ) -> bool {
-    let refusal = ToldLine {
-        out: "",
-        err: text,
-        status: 3,
-    };
-    tells(rt, alloc, inputs, TWO_WORKERS, 1000, refusal)
+    tells(rt, alloc, inputs, TWO_WORKERS, 1000, ("", text, 3))
 }
 
 /// Whether each of these inputs is refused.
@@ -488,11 +431,7 @@ fn too_many_blocks_are_told(rt: HostRuntime) {
 
 #[test]
 fn a_verdict_that_is_not_written_is_told(rt: HostRuntime) {
-    let unwritten = ToldLine {
-        out: "",
-        err: "vmecheck: cannot write\n",
-        status: 5,
-    };
+    let unwritten = ("", "vmecheck: cannot write\n", 5);
     assert!(rt; tells(&rt, rt.alloc(), (BINDING, READ), TWO_WORKERS, 0, unwritten));
 }
 
