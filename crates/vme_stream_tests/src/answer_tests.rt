@@ -1,4 +1,4 @@
-ghost use Rattle.std.specs.Prelude.{◌≤◌, None};
+ghost use Rattle.std.specs.Prelude.{◌≤◌};
 
 use std::alloc::{AllocError, Global};
 use vcd_read::{FaultKind, VcdFault};
@@ -10,7 +10,8 @@ use vme_stream::{
     verdict_on, verdict_status,
 };
 use vme_summary::NoVerdict;
-use vme_trace::{Break, Failed, Line, Rule, Sink, Verdict};
+use vme_test_streams::{LimitedSink, WantedAnswer, has_answered};
+use vme_trace::{Break, Line, Rule, Verdict};
 
 /// Six lines are recorded, and the bus is busy.
 const BINDING: &str = "slots 1\nAS = bus.AS\nDS0 = bus.DS0\nDS1 = bus.DS1\nDTACK = bus.DTACK\n\
@@ -68,41 +69,6 @@ fn dump_of(alloc: Global, body: &str) -> Result<String, AllocError> {
     let mut dump = String::from_str(alloc, HEAD)?;
     dump.push_str(body)?;
     Ok(dump)
-}
-
-/// A sink that holds what it took, as long as that is shorter than its room.
-#[derive(Drop)]
-struct Page {
-    bytes: Vec<u8>,
-    room: usize,
-    failures: u64,
-}
-
-impl Page {
-    fn new(alloc: Global, room: usize) -> Page {
-        Page {
-            bytes: Vec::new(alloc),
-            room,
-            failures: 0,
-        }
-    }
-}
-
-impl Sink for Page {
-    ghost writing = { λ page. record { taken = None; failures = page.failures } };
-
-    fn write(&mut self, bytes: &[u8]) -> Result<usize, Failed> {
-        if self.bytes.len() < self.room && self.bytes.extend_from_slice(bytes).is_ok() {
-            return Ok(bytes.len());
-        }
-        match self.failures.checked_add(1) {
-            Some(failures) => {
-                self.failures = failures;
-                Err(Failed)
-            }
-            None => Ok(bytes.len()),
-        }
-    }
 }
 
 /// The verdict on the recording of a binding and a dump, in blocks of `block` steps.
@@ -185,23 +151,22 @@ fn each_way_to_a_recording_gives_the_same(rt: HostRuntime) {
     }
 }
 
-/// Whether the verdict `STRAY`, written to an output with this room, gives `text` there, `told` on the error output,
-/// and this status.
-fn tells(alloc: Global, room: usize, text: &[u8], told: &[u8], status: u8) -> bool {
-    let mut out = Page::new(alloc, room);
-    let mut err = Page::new(alloc, 100);
-    let ended = tell_verdict(&STRAY, &mut out, &mut err);
-    out.bytes.as_slice() == text && err.bytes.as_slice() == told && ended == status
+/// Whether the verdict `STRAY`, written to an output with this room, gives `wanted`.
+fn tells(alloc: Global, room: usize, wanted: WantedAnswer<'_>) -> bool {
+    let mut out = LimitedSink::new(alloc, room);
+    let mut err = LimitedSink::new(alloc, 100);
+    let status = tell_verdict(&STRAY, &mut out, &mut err);
+    has_answered(&out, &err, status, wanted)
 }
 
 #[test]
 fn a_verdict_is_told(rt: HostRuntime) {
-    let line = b"broken H4 at instant 3 time 20 line DTACK\n";
-    let full = b"vmecheck: cannot write\n";
-    assert!(rt; tells(rt.alloc(), 100, line, b"", 1));
-    assert!(rt; tells(rt.alloc(), 0, b"", full, 5));
-    assert!(rt; verdict_line(&STRAY).as_bytes() == line.as_slice());
-    assert!(rt; cannot_write_line().as_bytes() == full.as_slice());
+    let line = "broken H4 at instant 3 time 20 line DTACK\n";
+    let full = "vmecheck: cannot write\n";
+    assert!(rt; tells(rt.alloc(), 100, (line, "", 1)));
+    assert!(rt; tells(rt.alloc(), 0, ("", full, 5)));
+    assert!(rt; verdict_line(&STRAY).as_bytes() == line.as_bytes());
+    assert!(rt; cannot_write_line().as_bytes() == full.as_bytes());
     assert!(rt;
         verdict_status(&Verdict::Conforming) == 0 && verdict_status(&Verdict::NeverIdle) == 2
     );
