@@ -1,8 +1,7 @@
 //! A dump that is judged in pieces: the verdict and the listing are those of the whole text, wherever it is cut.
 
-use crate::tests::{HEAD, LISTING, Page, WantedTexts, has_told};
+use crate::tests::{HEAD, LISTING};
 use std::alloc::Global;
-use std::io::{self, Read};
 use std::process::Abort;
 use std::test::Fail;
 use std::thread::Threads;
@@ -10,6 +9,7 @@ use vme_commands::check::check_by;
 use vme_commands::list::list_by;
 use vme_commands::{BLOCK, BUILT_IN, Workers};
 use vme_stream::{Bytes, Io};
+use vme_test_streams::{LimitedSink, PieceReader, has_answered};
 
 /// How long the pieces are that a dump is cut into. The longest is longer than each dump here.
 const PIECES: [usize; 10] = [1, 2, 3, 5, 8, 13, 21, 34, 64, 4096];
@@ -20,28 +20,9 @@ static WORKERS: [u32; 3] = [1, 2, 5];
 /// The skews that it is deskewed by. No two steps are so near.
 static SKEWS: [u64; 2] = [0, 1];
 
-/// A reader that gives at most `portion` bytes a read.
-#[derive(Drop)]
-struct Portions<'a> {
-    left: &'a [u8],
-    portion: usize,
-}
-
-impl Read for Portions<'_> {
-    fn read(&mut self, buffer: &mut [u8]) -> io::Result<usize> {
-        let count = self.left.len().min(buffer.len()).min(self.portion);
-        buffer[..count].copy_from_slice(&self.left[..count]);
-        self.left = &self.left[count..];
-        Ok(count)
-    }
-}
-
 /// A source of a dump that gives at most `portion` bytes a read.
-fn in_portions(dump: &str, portion: usize) -> Io<Portions<'_>> {
-    Io::new(Portions {
-        left: dump.as_bytes(),
-        portion,
-    })
+fn in_portions(dump: &str, portion: usize) -> Io<PieceReader<'_>> {
+    Io::new(PieceReader::new(dump.as_bytes(), portion))
 }
 
 /// The expected answers to a dump: the line of its verdict, its listing, or else its first fault, and the status.
@@ -117,8 +98,8 @@ fn checks_by<R: Threads + Sync>(
     skew: u64,
     wanted: Wanted,
 ) -> bool {
-    let mut out = Page::new(alloc, 1000);
-    let mut err = Page::new(alloc, 1000);
+    let mut out = LimitedSink::new(alloc, 1000);
+    let mut err = LimitedSink::new(alloc, 1000);
     let status = check_by(
         alloc,
         workers,
@@ -129,12 +110,8 @@ fn checks_by<R: Threads + Sync>(
         &mut out,
         &mut err,
     );
-    let texts = WantedTexts {
-        out: wanted.line,
-        err: wanted.fault,
-        status: wanted.status,
-    };
-    has_told(&out, &err, status, texts)
+    let texts = (wanted.line, wanted.fault, wanted.status);
+    has_answered(&out, &err, status, texts)
 }
 
 /// Whether the listing is written, or else the fault is reported.
@@ -145,8 +122,8 @@ fn lists_by<R: Threads + Sync>(
     skew: u64,
     wanted: Wanted,
 ) -> bool {
-    let mut out = Page::new(alloc, 1000);
-    let mut err = Page::new(alloc, 1000);
+    let mut out = LimitedSink::new(alloc, 1000);
+    let mut err = LimitedSink::new(alloc, 1000);
     let status = list_by(
         alloc,
         workers,
@@ -157,12 +134,8 @@ fn lists_by<R: Threads + Sync>(
         &mut out,
         &mut err,
     );
-    let texts = WantedTexts {
-        out: wanted.listing,
-        err: wanted.fault,
-        status: wanted.status,
-    };
-    has_told(&out, &err, status, texts)
+    let texts = (wanted.listing, wanted.fault, wanted.status);
+    has_answered(&out, &err, status, texts)
 }
 
 /// Bodies of dumps, and the fault of each, or none where it conforms.

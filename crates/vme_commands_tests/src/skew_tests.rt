@@ -3,8 +3,8 @@
 ghost use Rattle.std.specs.Prelude.{◌≤◌};
 
 use crate::tests::{
-    HEAD, NEVER_IDLE, Page, SINGLE_STEPS, Settings, TOO_MANY_BLOCKS, WantedTexts, checks, dump_of,
-    explains, has_told, lists, many_steps,
+    HEAD, NEVER_IDLE, SINGLE_STEPS, Settings, TOO_MANY_BLOCKS, checks, dump_of, explains, lists,
+    many_steps,
 };
 use std::process::Abort;
 use std::test::Fail;
@@ -12,6 +12,7 @@ use std::thread::Threads;
 use vme_commands::list::list;
 use vme_commands::{BLOCK, BUILT_IN, unsettled};
 use vme_stream::Bytes;
+use vme_test_streams::{LimitedSink, has_answered};
 
 /// The body of a dump of a read whose strobe is recorded 3 time units after its answer.
 const EARLY_ANSWER: &str = "#0 1p 1q 1r 1s 1t 1u\n#10 0p\n#20 0s\n#23 0q\n#40 1p 1q\n#50 1s\n";
@@ -74,11 +75,7 @@ fn expect_verdict<R: Abort + AllocGlobal + Threads + Sync>(
         workers,
         skew,
     };
-    let texts = WantedTexts {
-        out: line,
-        err: "",
-        status,
-    };
+    let texts = (line, "", status);
     assert!(rt;
         checks(rt, BUILT_IN, dump.as_bytes(), settings, texts),
         "by {skew}"
@@ -99,11 +96,7 @@ fn expect_listing<R: Abort + AllocGlobal + Threads + Sync>(
         workers,
         skew,
     };
-    let texts = WantedTexts {
-        out: listing,
-        err: "",
-        status,
-    };
+    let texts = (listing, "", status);
     assert!(rt;
         lists(rt, BUILT_IN, dump.as_bytes(), settings, texts),
         "by {skew}"
@@ -198,8 +191,8 @@ fn blocks_are_counted_behind_settling(rt: HostRuntime) -> Result<(), Fail> {
 fn want_of_memory_by_a_skew_is_told(rt: HostRuntime) {
     let (Ok(dump), Ok(mut out), Ok(mut err)) = (
         dump_of(rt.alloc(), HEAD, EARLY_ANSWER),
-        Page::with_room(rt.alloc(), 200),
-        Page::with_room(rt.alloc(), 200),
+        LimitedSink::with_capacity(rt.alloc(), 200),
+        LimitedSink::with_capacity(rt.alloc(), 200),
     ) else {
         return;
     };
@@ -215,17 +208,9 @@ fn want_of_memory_by_a_skew_is_told(rt: HostRuntime) {
         &mut err,
     );
     let wanted = if status == 4 {
-        WantedTexts {
-            out: "",
-            err: "vmecheck: out of memory\n",
-            status: 4,
-        }
+        ("", "vmecheck: out of memory\n", 4)
     } else {
-        WantedTexts {
-            out: SETTLED,
-            err: "",
-            status: 0,
-        }
+        (SETTLED, "", 0)
     };
-    assert!(rt; has_told(&out, &err, status, wanted));
+    assert!(rt; has_answered(&out, &err, status, wanted));
 }

@@ -1,7 +1,6 @@
 //! Readers that fail or never end, and writers that fail, at each place.
 
 use crate::tests::{BODY, HEAD, LISTING, dump_of};
-use std::alloc::Global;
 use std::io::{self, Error, ErrorKind, Read, Write};
 use std::process::Abort;
 use std::test::Fail;
@@ -10,6 +9,7 @@ use vme_commands::check::check;
 use vme_commands::list::list;
 use vme_commands::{BLOCK, BUILT_IN};
 use vme_stream::{Bytes, Io};
+use vme_test_streams::{PieceReader, PieceWriter};
 use vme_trace::Source;
 
 /// The listing of the read without its strobe.
@@ -29,37 +29,10 @@ enum Command {
 
 static COMMANDS: [Command; 2] = [Command::Check, Command::List];
 
-/// A reader that gives at most `piece` bytes a read, is interrupted before each, and fails after the last.
-#[derive(Drop)]
-struct Torn<'a> {
-    left: &'a [u8],
-    piece: usize,
-    interrupted: bool,
-}
-
-impl Read for Torn<'_> {
-    fn read(&mut self, buffer: &mut [u8]) -> io::Result<usize> {
-        self.interrupted = !self.interrupted;
-        if self.interrupted {
-            return Err(Error::from(ErrorKind::Interrupted));
-        }
-        if self.left.is_empty() {
-            return Err(Error::from(ErrorKind::Other));
-        }
-        let count = self.left.len().min(buffer.len()).min(self.piece);
-        buffer[..count].copy_from_slice(&self.left[..count]);
-        self.left = &self.left[count..];
-        Ok(count)
-    }
-}
-
 /// A source of the bytes up to `place`, at most `piece` a read, that fails there.
-fn torn_at(text: &str, place: usize, piece: usize) -> Io<Torn<'_>> {
-    Io::new(Torn {
-        left: text.as_bytes().get(..place).unwrap_or_default(),
-        piece,
-        interrupted: false,
-    })
+fn torn_at(text: &str, place: usize, piece: usize) -> Io<PieceReader<'_>> {
+    let front = text.as_bytes().get(..place).unwrap_or_default();
+    Io::new(PieceReader::torn(front, piece))
 }
 
 /// A reader of `left` line feeds, at most `piece` a read, and the least room that it was offered.
@@ -90,46 +63,6 @@ impl Read for Stuck {
     }
 }
 
-/// A writer that holds what it took, at most `piece` bytes a write, is interrupted before each, and fails once it has
-/// no room.
-#[derive(Drop)]
-struct Page {
-    bytes: Vec<u8>,
-    room: usize,
-    piece: usize,
-    interrupted: bool,
-}
-
-impl Page {
-    fn new(alloc: Global, room: usize, piece: usize) -> Page {
-        Page {
-            bytes: Vec::new(alloc),
-            room,
-            piece,
-            interrupted: false,
-        }
-    }
-}
-
-impl Write for Page {
-    fn write(&mut self, bytes: &[u8]) -> io::Result<usize> {
-        self.interrupted = !self.interrupted;
-        if self.interrupted {
-            return Err(Error::from(ErrorKind::Interrupted));
-        }
-        let count = bytes.len().min(self.room).min(self.piece);
-        if count > 0 && self.bytes.extend_from_slice(&bytes[..count]).is_ok() {
-            self.room -= count;
-            return Ok(count);
-        }
-        Err(Error::from(ErrorKind::Other))
-    }
-
-    fn flush(&mut self) -> io::Result<()> {
-        Ok(())
-    }
-}
-
 /// A writer that takes nothing, and says so.
 #[derive(Drop)]
 struct Deaf;
@@ -150,8 +83,8 @@ fn status_of<R: AllocGlobal + Threads + Sync, B: Source, D: Source>(
     command: Command,
     binding: &mut B,
     dump: &mut D,
-    out: &mut Page,
-    err: &mut Page,
+    out: &mut PieceWriter,
+    err: &mut PieceWriter,
 ) -> u8 {
     let (mut out, mut err) = (Io::new(out), Io::new(err));
     let (out, err) = (&mut out, &mut err);
@@ -170,8 +103,8 @@ fn refuses<R: AllocGlobal + Threads + Sync, B: Source, D: Source>(
     dump: &mut D,
     text: &str,
 ) -> bool {
-    let mut out = Page::new(rt.alloc(), 1000, 1000);
-    let mut err = Page::new(rt.alloc(), 1000, 1000);
+    let mut out = PieceWriter::new(rt.alloc(), 1000, 1000);
+    let mut err = PieceWriter::new(rt.alloc(), 1000, 1000);
     let status = status_of(rt, command, binding, dump, &mut out, &mut err);
     out.bytes.is_empty() && err.bytes.as_slice() == text.as_bytes() && status == 3
 }
@@ -279,7 +212,7 @@ fn a_reader_that_is_interrupted_for_good(rt: HostRuntime) {
 #[test]
 fn a_writer_that_takes_nothing(rt: HostRuntime) -> Result<(), Fail> {
     let dump = dump_of(rt.alloc(), HEAD, BODY)?;
-    let mut err = Page::new(rt.alloc(), 1000, 1000);
+    let mut err = PieceWriter::new(rt.alloc(), 1000, 1000);
     let status = check(
         &rt,
         rt.alloc(),
@@ -296,7 +229,7 @@ fn a_writer_that_takes_nothing(rt: HostRuntime) -> Result<(), Fail> {
     Ok(())
 }
 
-/// Whether a command writes the first `room` bytes of `text` to a page with that room, and `message` to `err`, with
+/// Whether a command writes the first `room` bytes of `text` to a writer with that room, and `message` to `err`, with
 /// this status.
 fn writes_front<R: AllocGlobal + Threads + Sync>(
     rt: &R,
@@ -307,8 +240,8 @@ fn writes_front<R: AllocGlobal + Threads + Sync>(
     message: &str,
     status: u8,
 ) -> bool {
-    let mut out = Page::new(rt.alloc(), room, 5);
-    let mut err = Page::new(rt.alloc(), 1000, 1000);
+    let mut out = PieceWriter::new(rt.alloc(), room, 5);
+    let mut err = PieceWriter::new(rt.alloc(), 1000, 1000);
     let found = status_of(
         rt,
         command,
@@ -357,7 +290,7 @@ fn expect_fronts<R: Abort + AllocGlobal + Threads + Sync>(
 }
 
 #[test]
-fn full_pages(rt: HostRuntime) -> Result<(), Fail> {
+fn full_writers(rt: HostRuntime) -> Result<(), Fail> {
     let whole = dump_of(rt.alloc(), HEAD, BODY)?;
     let body = BODY.replace(rt.alloc(), "#20 0q\n", "")?;
     let broken = dump_of(rt.alloc(), HEAD, body.as_str())?;

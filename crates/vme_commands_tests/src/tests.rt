@@ -1,4 +1,4 @@
-ghost use Rattle.std.specs.Prelude.{◌≤◌, IfSome, None};
+ghost use Rattle.std.specs.Prelude.{◌≤◌, IfSome};
 
 use std::alloc::{AllocError, Global};
 use std::process::Abort;
@@ -9,10 +9,11 @@ use vme_commands::list::list;
 use vme_commands::{BLOCK, BUILT_IN, allowance_of, allowances_of};
 use vme_faults::RefusalKind;
 use vme_stream::Bytes;
+use vme_test_streams::{LimitedSink, WantedAnswer, has_answered};
 use vme_text_commands::bind::bind;
 use vme_text_commands::explain::{InputNames, explain};
 use vme_text_commands::{tell_faults, tell_variables};
-use vme_trace::{Failed, Line, Rule, Sink};
+use vme_trace::{Line, Rule};
 
 /// The head of a dump with the six variables of the built-in binding.
 pub(crate) const HEAD: &str = "$timescale 1 ns $end\n$scope module bus $end\n\
@@ -39,65 +40,6 @@ const UNBOUND: &str = "$enddefinitions $end\n";
 pub(crate) const LISTING: &str =
     "vmecheck listing 3\nstart 1\ntenure 1 open end -\ncycle 2 S 3D FFFFFE end 5\n\
 transfer 3 of 2 read DTACK 4 close 5\nverdict conforming\n";
-
-/// A sink that holds what it took, up to a count of bytes at which writes fail.
-#[derive(Drop)]
-pub(crate) struct Page {
-    pub bytes: Vec<u8>,
-    room: usize,
-    failures: u64,
-}
-
-impl Page {
-    pub fn new(alloc: Global, room: usize) -> Page {
-        Page {
-            bytes: Vec::new(alloc),
-            room,
-            failures: 0,
-        }
-    }
-
-    /// A sink whose memory is taken before the first write.
-    pub fn with_room(alloc: Global, room: usize) -> Result<Page, AllocError> {
-        Ok(Page {
-            bytes: Vec::with_capacity(alloc, room)?,
-            room,
-            failures: 0,
-        })
-    }
-}
-
-impl Sink for Page {
-    ghost writing = { λ page. record { taken = None; failures = page.failures } };
-
-    fn write(&mut self, bytes: &[u8]) -> Result<usize, Failed> {
-        if self.bytes.len() < self.room && self.bytes.extend_from_slice(bytes).is_ok() {
-            return Ok(bytes.len());
-        }
-        match self.failures.checked_add(1) {
-            Some(failures) => {
-                self.failures = failures;
-                Err(Failed)
-            }
-            None => Ok(bytes.len()),
-        }
-    }
-}
-
-/// What a command writes to `out` and to `err`, and its status.
-#[derive(Clone, Copy)]
-pub(crate) struct WantedTexts<'a> {
-    pub out: &'a str,
-    pub err: &'a str,
-    pub status: u8,
-}
-
-/// Whether a command wrote this, and ended with this status.
-pub(crate) fn has_told(out: &Page, err: &Page, status: u8, wanted: WantedTexts<'_>) -> bool {
-    out.bytes.as_slice() == wanted.out.as_bytes()
-        && err.bytes.as_slice() == wanted.err.as_bytes()
-        && status == wanted.status
-}
 
 /// How a command judges: how many steps a block has, how many workers read the dump, and the skew.
 #[derive(Clone, Copy)]
@@ -127,13 +69,13 @@ pub(crate) fn checks<R: AllocGlobal + Threads + Sync>(
     binding: &[u8],
     dump: &[u8],
     settings: Settings,
-    wanted: WantedTexts<'_>,
+    wanted: WantedAnswer<'_>,
 ) -> bool
     requires block { (1 ≤ settings.block) × (settings.block ≤ 65536) }
     requires workers { (1 ≤ settings.workers) × (settings.workers ≤ 64) }
 {
-    let mut out = Page::new(rt.alloc(), 1000);
-    let mut err = Page::new(rt.alloc(), 1000);
+    let mut out = LimitedSink::new(rt.alloc(), 1000);
+    let mut err = LimitedSink::new(rt.alloc(), 1000);
     let status = check(
         rt,
         rt.alloc(),
@@ -145,7 +87,7 @@ pub(crate) fn checks<R: AllocGlobal + Threads + Sync>(
         &mut out,
         &mut err,
     );
-    has_told(&out, &err, status, wanted)
+    has_answered(&out, &err, status, wanted)
 }
 
 fn expect_verdict<R: Abort + AllocGlobal + Threads + Sync>(
@@ -154,11 +96,7 @@ fn expect_verdict<R: Abort + AllocGlobal + Threads + Sync>(
     text: &str,
     status: u8,
 ) {
-    let wanted = WantedTexts {
-        out: text,
-        err: "",
-        status,
-    };
+    let wanted = (text, "", status);
     let three_steps = Settings {
         block: 3,
         workers: 1,
@@ -184,11 +122,7 @@ fn expect_refusal<R: Abort + AllocGlobal + Threads + Sync>(
     dump: &str,
     text: &str,
 ) {
-    let wanted = WantedTexts {
-        out: "",
-        err: text,
-        status: 3,
-    };
+    let wanted = ("", text, 3);
     assert!(rt;
         checks(rt, binding.as_bytes(), dump.as_bytes(), USUAL, wanted),
         "{text}"
@@ -238,13 +172,13 @@ pub(crate) fn lists<R: AllocGlobal + Threads + Sync>(
     binding: &[u8],
     dump: &[u8],
     settings: Settings,
-    wanted: WantedTexts<'_>,
+    wanted: WantedAnswer<'_>,
 ) -> bool
     requires block { (1 ≤ settings.block) × (settings.block ≤ 65536) }
     requires workers { (1 ≤ settings.workers) × (settings.workers ≤ 64) }
 {
-    let mut out = Page::new(rt.alloc(), 1000);
-    let mut err = Page::new(rt.alloc(), 1000);
+    let mut out = LimitedSink::new(rt.alloc(), 1000);
+    let mut err = LimitedSink::new(rt.alloc(), 1000);
     let status = list(
         rt,
         rt.alloc(),
@@ -256,7 +190,7 @@ pub(crate) fn lists<R: AllocGlobal + Threads + Sync>(
         &mut out,
         &mut err,
     );
-    has_told(&out, &err, status, wanted)
+    has_answered(&out, &err, status, wanted)
 }
 
 fn expect_listing<R: Abort + AllocGlobal + Threads + Sync>(
@@ -265,11 +199,7 @@ fn expect_listing<R: Abort + AllocGlobal + Threads + Sync>(
     text: &str,
     status: u8,
 ) {
-    let wanted = WantedTexts {
-        out: text,
-        err: "",
-        status,
-    };
+    let wanted = (text, "", status);
     assert!(rt;
         lists(rt, BUILT_IN, dump.as_bytes(), SINGLE_STEPS, wanted),
         "{dump}"
@@ -329,11 +259,7 @@ fn reset_binding(alloc: Global) -> Result<String, Fail> {
 fn a_reset_ends_what_is_judged(rt: HostRuntime) -> Result<(), Fail> {
     let dump = reset_dump(rt.alloc())?;
     let binding = reset_binding(rt.alloc())?;
-    let listed = WantedTexts {
-        out: RESET_LISTING,
-        err: "",
-        status: 0,
-    };
+    let listed = (RESET_LISTING, "", 0);
     assert!(rt;
         lists(
             &rt,
@@ -482,18 +408,10 @@ pub(crate) fn many_steps(alloc: Global, head: &str, count: u32) -> Result<String
 }
 
 /// What is written of a dump of which too many blocks would be made.
-pub(crate) const TOO_MANY_BLOCKS: WantedTexts<'static> = WantedTexts {
-    out: "",
-    err: "vmecheck: too many blocks\n",
-    status: 3,
-};
+pub(crate) const TOO_MANY_BLOCKS: WantedAnswer<'static> = ("", "vmecheck: too many blocks\n", 3);
 
 /// What is written of a dump in which the bus is never idle.
-pub(crate) const NEVER_IDLE: WantedTexts<'static> = WantedTexts {
-    out: "never idle\n",
-    err: "",
-    status: 2,
-};
+pub(crate) const NEVER_IDLE: WantedAnswer<'static> = ("never idle\n", "", 2);
 
 /// 4,097 steps are one block too many if each is a block.
 #[test]
@@ -581,8 +499,8 @@ pub(crate) fn explains(
     parts: (&[&str], &[&str]),
 ) -> bool {
     let (text, wanted_status) = wanted;
-    let mut out = Page::new(alloc, 5000);
-    let mut err = Page::new(alloc, 100);
+    let mut out = LimitedSink::new(alloc, 5000);
+    let mut err = LimitedSink::new(alloc, 100);
     let (status, files) = explain(
         alloc,
         &mut Bytes::new(binding),
@@ -606,7 +524,7 @@ pub(crate) fn explains(
 }
 
 /// Whether an explanation was begun, or want of memory was reported, and nothing else.
-fn begins_or_lacks_memory(out: &Page, err: &Page, status: u8) -> bool {
+fn begins_or_lacks_memory(out: &LimitedSink, err: &LimitedSink, status: u8) -> bool {
     if status == 4 {
         return err.bytes.as_slice() == b"vmecheck: out of memory\n".as_slice();
     }
@@ -618,8 +536,8 @@ fn begins_or_lacks_memory(out: &Page, err: &Page, status: u8) -> bool {
 fn want_of_memory_is_told(rt: HostRuntime) {
     let (Ok(dump), Ok(mut out), Ok(mut err)) = (
         dump_of(rt.alloc(), HEAD, BODY),
-        Page::with_room(rt.alloc(), 5000),
-        Page::with_room(rt.alloc(), 100),
+        LimitedSink::with_capacity(rt.alloc(), 5000),
+        LimitedSink::with_capacity(rt.alloc(), 100),
     ) else {
         return;
     };
@@ -661,8 +579,8 @@ fn binds(
     requires { IfSome slots (λ n. (1 ≤ n) × (n ≤ 21)) }
 {
     let (head, message, wanted_status) = bound;
-    let mut out = Page::new(alloc, 5000);
-    let mut err = Page::new(alloc, 200);
+    let mut out = LimitedSink::new(alloc, 20_000);
+    let mut err = LimitedSink::new(alloc, 1000);
     let mut dump = Bytes::new(dump.as_bytes());
     let status = bind(
         alloc, &mut dump, b"bus.vcd", slots, path, &mut out, &mut err,
@@ -725,8 +643,8 @@ fn a_binding_is_written_for_a_scope(rt: HostRuntime) -> Result<(), Fail> {
 
 #[test]
 fn a_kind_of_refusal_is_told(rt: HostRuntime) {
-    let mut out = Page::new(rt.alloc(), 5000);
-    let mut err = Page::new(rt.alloc(), 100);
+    let mut out = LimitedSink::new(rt.alloc(), 5000);
+    let mut err = LimitedSink::new(rt.alloc(), 100);
     let status = tell_faults(rt.alloc(), Some(RefusalKind::BadVar), &mut out, &mut err);
     let first_lines =
         b"BadVar: a declaration that is none\n  expected: `$var`, a type, a size in digits, ";
@@ -743,14 +661,14 @@ it\nBadToken: a token of the dump may not stand where it stands\n  expected: ";
 const COMPRESSED_DUMP: &[u8] = b"\x1F\x8B\x08\n";
 
 /// Whether nothing is written of a compressed dump, and the message says what it is.
-fn is_compressed(status: u8, out: &Page, err: &Page) -> bool {
+fn is_compressed(status: u8, out: &LimitedSink, err: &LimitedSink) -> bool {
     status == 3 && out.bytes.is_empty() && err.bytes.as_slice().starts_with(COMPRESSED)
 }
 
 #[test]
 fn variables_of_a_refused_dump_are_not_told(rt: HostRuntime) {
-    let mut out = Page::new(rt.alloc(), 100);
-    let mut err = Page::new(rt.alloc(), 5000);
+    let mut out = LimitedSink::new(rt.alloc(), 100);
+    let mut err = LimitedSink::new(rt.alloc(), 5000);
     let mut dump = Bytes::new(COMPRESSED_DUMP);
     let status = tell_variables(rt.alloc(), &mut dump, b"b.vcd", &mut out, &mut err);
     assert!(rt; is_compressed(status, &out, &err));
@@ -758,8 +676,8 @@ fn variables_of_a_refused_dump_are_not_told(rt: HostRuntime) {
 
 #[test]
 fn a_refused_dump_is_not_bound(rt: HostRuntime) {
-    let mut out = Page::new(rt.alloc(), 100);
-    let mut err = Page::new(rt.alloc(), 5000);
+    let mut out = LimitedSink::new(rt.alloc(), 100);
+    let mut err = LimitedSink::new(rt.alloc(), 5000);
     let mut dump = Bytes::new(COMPRESSED_DUMP);
     let status = bind(
         rt.alloc(),
@@ -775,8 +693,8 @@ fn a_refused_dump_is_not_bound(rt: HostRuntime) {
 
 #[test]
 fn a_refused_dump_is_not_explained(rt: HostRuntime) {
-    let mut out = Page::new(rt.alloc(), 100);
-    let mut err = Page::new(rt.alloc(), 5000);
+    let mut out = LimitedSink::new(rt.alloc(), 100);
+    let mut err = LimitedSink::new(rt.alloc(), 5000);
     let mut binding = Bytes::new(BUILT_IN);
     let mut dump = Bytes::new(COMPRESSED_DUMP);
     let (status, _) = explain(
