@@ -6,7 +6,7 @@ use std::thread::Threads;
 use vme_explain::{FileId, PathEntry};
 use vme_program::{Environment, WriteResult, run_words};
 use vme_stream::Bytes;
-use vme_trace::{Failed, Sink};
+use vme_test_streams::LimitedSink;
 
 const BINDING: &str =
     "slots 1\nAS = bus.AS\nDS0 = bus.DS0\nDS1 = bus.DS1\nDTACK = bus.DTACK\nBERR = bus.BERR\n\
@@ -138,23 +138,6 @@ impl<'a> Environment for Shelf<'a> {
     }
 }
 
-/// A sink that holds what it took.
-#[derive(Drop)]
-struct Page {
-    bytes: Vec<u8>,
-}
-
-impl Sink for Page {
-    ghost use Rattle.std.specs.Prelude.{None};
-
-    ghost writing = { λ _. record { taken = None; failures = 0 } };
-
-    fn write(&mut self, bytes: &[u8]) -> Result<usize, Failed> {
-        let _ = self.bytes.extend_from_slice(bytes);
-        Ok(bytes.len())
-    }
-}
-
 /// The words, i.e. the arguments, in a line, the program's name first.
 fn words_of(alloc: Global, line: &str) -> Result<Vec<String>, AllocError> {
     let mut words = Vec::new(alloc);
@@ -162,6 +145,49 @@ fn words_of(alloc: Global, line: &str) -> Result<Vec<String>, AllocError> {
         words.push(String::from_str(alloc, word)?)?;
     }
     Ok(words)
+}
+
+/// What came of the words of a line.
+#[derive(Drop)]
+struct Ran {
+    out: Vec<u8>,
+    err: Vec<u8>,
+    /// The status, which is `None` if the words are wrong.
+    status: Option<u8>,
+    /// How often a file was put in a place.
+    replaces: u32,
+    /// How often a file was written.
+    writes: u32,
+}
+
+/// Runs the words of a line, with `part` as the file of the part.
+fn run_line<R: AllocGlobal + Threads + Sync>(
+    rt: &R,
+    line: &str,
+    is_terminal: bool,
+    part: &[u8],
+) -> Result<Ran, AllocError> {
+    let words = words_of(rt.alloc(), line)?;
+    let shelf = Shelf {
+        is_terminal,
+        part,
+        replaces: Cell::new(0),
+        writes: Cell::new(0),
+    };
+    let mut out = LimitedSink::new(rt.alloc(), 1_000_000);
+    let mut err = LimitedSink::new(rt.alloc(), 1_000_000);
+    let status = match run_words(rt, rt.alloc(), &shelf, words.as_slice(), &mut out, &mut err) {
+        Ok(status) => Some(status),
+        Err(_) => None,
+    };
+    let (replaces, writes) = (shelf.replaces.get(), shelf.writes.get());
+    Ok(Ran {
+        out: out.bytes,
+        err: err.bytes,
+        status,
+        replaces,
+        writes,
+    })
 }
 
 /// Runs the words of a line, and compares the status, how standard output and standard error begin, and how often a
@@ -173,38 +199,18 @@ fn expect<R: Abort + AllocGlobal + Threads + Sync>(
     texts: (&str, &str),
     ended: (u8, u32, u32),
 ) -> Result<(), AllocError> {
-    let words = words_of(rt.alloc(), line)?;
-    let shelf = Shelf {
-        is_terminal,
-        part: b"vmepart2",
-        replaces: Cell::new(0),
-        writes: Cell::new(0),
-    };
-    let mut out = Page {
-        bytes: Vec::new(rt.alloc()),
-    };
-    let mut err = Page {
-        bytes: Vec::new(rt.alloc()),
-    };
-    let status = run_words(rt, rt.alloc(), &shelf, words.as_slice(), &mut out, &mut err);
-    match status {
-        Ok(status) => assert_eq!(rt;
-            (status, shelf.replaces.get(), shelf.writes.get()),
-            ended,
-            "{line}"
-        ),
-        Err(_) => assert!(rt; false, "{line}"),
-    }
-    assert!(rt;
-        out.bytes.as_slice().starts_with(texts.0.as_bytes()),
+    let ran = run_line(rt, line, is_terminal, b"vmepart2")?;
+    let (status, replaces, writes) = ended;
+    assert_eq!(rt;
+        (ran.status, ran.replaces, ran.writes),
+        (Some(status), replaces, writes),
         "{line}"
     );
-    assert!(rt; out.bytes.is_empty() == texts.0.is_empty(), "{line}");
-    assert!(rt;
-        err.bytes.as_slice().starts_with(texts.1.as_bytes()),
-        "{line}"
-    );
-    assert!(rt; err.bytes.is_empty() == texts.1.is_empty(), "{line}");
+    let (out, err) = (ran.out.as_slice(), ran.err.as_slice());
+    assert!(rt; out.starts_with(texts.0.as_bytes()), "{line}");
+    assert!(rt; out.is_empty() == texts.0.is_empty(), "{line}");
+    assert!(rt; err.starts_with(texts.1.as_bytes()), "{line}");
+    assert!(rt; err.is_empty() == texts.1.is_empty(), "{line}");
     Ok(())
 }
 
@@ -420,24 +426,8 @@ fn written<R: Abort + AllocGlobal + Threads + Sync>(
     line: &str,
     part: &[u8],
 ) -> Result<(Vec<u8>, Option<u8>), AllocError> {
-    let words = words_of(rt.alloc(), line)?;
-    let shelf = Shelf {
-        is_terminal: false,
-        part,
-        replaces: Cell::new(0),
-        writes: Cell::new(0),
-    };
-    let mut out = Page {
-        bytes: Vec::new(rt.alloc()),
-    };
-    let mut err = Page {
-        bytes: Vec::new(rt.alloc()),
-    };
-    let status = run_words(rt, rt.alloc(), &shelf, words.as_slice(), &mut out, &mut err);
-    match status {
-        Ok(status) => Ok((out.bytes, Some(status))),
-        Err(_) => Ok((out.bytes, None)),
-    }
+    let ran = run_line(rt, line, false, part)?;
+    Ok((ran.out, ran.status))
 }
 
 /// Whether the words of a line write `wanted` and have the status `ended`, which is `None` if they are wrong, with
