@@ -184,17 +184,19 @@ fn has_result(
     )
 }
 
-/// Whether the audit gives this result for each of these sizes of portions.
+/// Sizes of portions.
+static PORTIONS: [usize; 9] = [1, 2, 3, 5, 7, 8, 13, 64, 1_000];
+
+/// Whether the audit gives this result for each size of portions.
 fn always_has_result(
     alloc: Global,
     body: &str,
-    portions: &[usize],
     is_torn: bool,
     options: AuditOptions<'_>,
     wanted: WantedAudit<'_>,
 ) -> bool {
     let mut same = true;
-    for portion in portions {
+    for portion in PORTIONS.iter() {
         let feed = DumpFeed {
             portion: *portion,
             is_torn,
@@ -203,11 +205,6 @@ fn always_has_result(
     }
     same
 }
-
-/// Sizes of portions.
-static THREE: [usize; 3] = [1, 7, 1_000];
-
-static EIGHT: [usize; 8] = [1, 2, 3, 5, 8, 13, 64, 1_000];
 
 #[test]
 fn outcomes_are_told(rt: HostRuntime) {
@@ -264,16 +261,7 @@ const BROKEN: WantedAudit<'static> = WantedAudit {
 /// Each break is reported, for any sizes of portions.
 #[test]
 fn breaks_are_told(rt: HostRuntime) {
-    assert!(rt;
-        always_has_result(
-            rt.alloc(),
-            ANSWERS,
-            EIGHT.as_slice(),
-            false,
-            quietly(&[]),
-            BROKEN
-        )
-    );
+    assert!(rt; always_has_result(rt.alloc(), ANSWERS, false, quietly(&[]), BROKEN));
 }
 
 #[test]
@@ -309,17 +297,8 @@ fn an_audit_is_stopped(rt: HostRuntime) {
         stop: Some(1),
         ..quietly(&[])
     };
-    assert!(rt; always_has_result(rt.alloc(), ANSWERS, THREE.as_slice(), false, options, told));
-    assert!(rt;
-        always_has_result(
-            rt.alloc(),
-            FAULTY_ANSWERS,
-            THREE.as_slice(),
-            false,
-            options,
-            told
-        )
-    );
+    assert!(rt; always_has_result(rt.alloc(), ANSWERS, false, options, told));
+    assert!(rt; always_has_result(rt.alloc(), FAULTY_ANSWERS, false, options, told));
 }
 
 /// Before a fault the breaks are reported whose instants are followed by a later time.
@@ -330,16 +309,7 @@ fn a_fault_is_told(rt: HostRuntime) {
         err: b"vmecheck: d: dump line 17: BadToken\n",
         status: 3,
     };
-    assert!(rt;
-        always_has_result(
-            rt.alloc(),
-            FAULTY_ANSWERS,
-            THREE.as_slice(),
-            false,
-            quietly(&[]),
-            told
-        )
-    );
+    assert!(rt; always_has_result(rt.alloc(), FAULTY_ANSWERS, false, quietly(&[]), told));
     let early = WantedAudit {
         out: b"d: broken H4 at instant 2 time 10 line DTACK\n",
         err: b"vmecheck: d: dump line 16: BadToken\n",
@@ -365,8 +335,8 @@ fn a_dump_is_settled(rt: HostRuntime) {
         skew: 9,
         ..quietly(&[])
     };
-    assert!(rt; always_has_result(rt.alloc(), ANSWERS, THREE.as_slice(), false, options, told));
-    assert!(rt; always_has_result(rt.alloc(), ANSWERS, THREE.as_slice(), false, apart, BROKEN));
+    assert!(rt; always_has_result(rt.alloc(), ANSWERS, false, options, told));
+    assert!(rt; always_has_result(rt.alloc(), ANSWERS, false, apart, BROKEN));
 }
 
 /// If a read fails, what is complete in the bytes read is reported.
@@ -377,16 +347,7 @@ fn a_dump_that_cannot_be_read_is_told(rt: HostRuntime) {
         err: b"vmecheck: d: cannot read\n",
         status: 3,
     };
-    assert!(rt;
-        always_has_result(
-            rt.alloc(),
-            ANSWERS,
-            THREE.as_slice(),
-            true,
-            quietly(&[]),
-            told
-        )
-    );
+    assert!(rt; always_has_result(rt.alloc(), ANSWERS, true, quietly(&[]), told));
     let nothing = WantedAudit { out: b"", ..told };
     let torn = DumpFeed {
         is_torn: true,
