@@ -1,6 +1,6 @@
 //! A dump that is judged in pieces: the verdict and the listing are those of the whole text, wherever it is cut.
 
-use crate::tests::{HEAD, LISTING};
+use crate::tests::{Command, HEAD, LISTING};
 use std::alloc::Global;
 use std::process::Abort;
 use std::test::Fail;
@@ -9,7 +9,7 @@ use vme_commands::check::check_by;
 use vme_commands::list::list_by;
 use vme_commands::{BLOCK, BUILT_IN, Workers};
 use vme_stream::{Bytes, Io};
-use vme_test_streams::{LimitedSink, PieceReader, has_answered};
+use vme_test_streams::{LimitedSink, PieceReader, WantedAnswer, has_answered};
 
 /// How long the pieces are that a dump is cut into. The longest is longer than each dump here.
 const PIECES: [usize; 10] = [1, 2, 3, 5, 8, 13, 21, 34, 64, 4096];
@@ -78,64 +78,52 @@ fn expect_by<R: Abort + AllocGlobal + Threads + Sync>(
     wanted: Wanted,
 ) {
     let piece = workers.piece();
+    let line = (wanted.line, wanted.fault, wanted.status);
+    let listing = (wanted.listing, wanted.fault, wanted.status);
     for skew in SKEWS.iter() {
         assert!(rt;
-            checks_by(rt.alloc(), dump, workers, *skew, wanted),
+            answers_by(rt.alloc(), Command::Check, dump, workers, *skew, line),
             "pieces of {piece} bytes: {dump}"
         );
         assert!(rt;
-            lists_by(rt.alloc(), dump, workers, *skew, wanted),
+            answers_by(rt.alloc(), Command::List, dump, workers, *skew, listing),
             "pieces of {piece} bytes: {dump}"
         );
     }
 }
 
-/// Whether the line of the verdict is written, or else the fault is reported.
-fn checks_by<R: Threads + Sync>(
+/// The status with which a command on a dump ends, by these workers.
+fn status_by<R: Threads + Sync>(
     alloc: Global,
+    command: Command,
     dump: &str,
     workers: &Workers<'_, R>,
     skew: u64,
-    wanted: Wanted,
-) -> bool {
-    let mut out = LimitedSink::new(alloc, 1000);
-    let mut err = LimitedSink::new(alloc, 1000);
-    let status = check_by(
-        alloc,
-        workers,
-        &mut Bytes::new(BUILT_IN),
-        &mut in_portions(dump, workers.piece()),
-        BLOCK,
-        skew,
-        &mut out,
-        &mut err,
-    );
-    let texts = (wanted.line, wanted.fault, wanted.status);
-    has_answered(&out, &err, status, texts)
+    out: &mut LimitedSink,
+    err: &mut LimitedSink,
+) -> u8 {
+    let mut binding = Bytes::new(BUILT_IN);
+    let mut dump = in_portions(dump, workers.piece());
+    let (binding, dump) = (&mut binding, &mut dump);
+    match command {
+        Command::Check => check_by(alloc, workers, binding, dump, BLOCK, skew, out, err),
+        Command::List => list_by(alloc, workers, binding, dump, BLOCK, skew, out, err),
+    }
 }
 
-/// Whether the listing is written, or else the fault is reported.
-fn lists_by<R: Threads + Sync>(
+/// Whether a command on a dump, by these workers, answers `wanted`.
+fn answers_by<R: Threads + Sync>(
     alloc: Global,
+    command: Command,
     dump: &str,
     workers: &Workers<'_, R>,
     skew: u64,
-    wanted: Wanted,
+    wanted: WantedAnswer<'_>,
 ) -> bool {
     let mut out = LimitedSink::new(alloc, 1000);
     let mut err = LimitedSink::new(alloc, 1000);
-    let status = list_by(
-        alloc,
-        workers,
-        &mut Bytes::new(BUILT_IN),
-        &mut in_portions(dump, workers.piece()),
-        BLOCK,
-        skew,
-        &mut out,
-        &mut err,
-    );
-    let texts = (wanted.listing, wanted.fault, wanted.status);
-    has_answered(&out, &err, status, texts)
+    let status = status_by(alloc, command, dump, workers, skew, &mut out, &mut err);
+    has_answered(&out, &err, status, wanted)
 }
 
 /// Bodies of dumps, and the fault of each, or none where it conforms.

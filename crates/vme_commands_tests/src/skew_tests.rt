@@ -3,13 +3,12 @@
 ghost use Rattle.std.specs.Prelude.{◌≤◌};
 
 use crate::tests::{
-    HEAD, NEVER_IDLE, SINGLE_STEPS, Settings, TOO_MANY_BLOCKS, checks, dump_of, explains, lists,
-    many_steps,
+    Command, HEAD, NEVER_IDLE, SINGLE_STEPS, Settings, TOO_MANY_BLOCKS, answers, dump_of, explains,
+    many_steps, status_of,
 };
 use std::process::Abort;
 use std::test::Fail;
 use std::thread::Threads;
-use vme_commands::list::list;
 use vme_commands::{BLOCK, BUILT_IN, unsettled};
 use vme_stream::Bytes;
 use vme_test_streams::{LimitedSink, has_answered};
@@ -61,7 +60,8 @@ static WANTED: [(u64, &str, &str, u8); 6] = [
     (u64::MAX, "conforming\n", ONE, 0),
 ];
 
-fn expect_verdict<R: Abort + AllocGlobal + Threads + Sync>(
+/// Expects that `check` and `list` answer this of a dump, by so many workers.
+fn expect_answers<R: Abort + AllocGlobal + Threads + Sync>(
     rt: &R,
     dump: &str,
     workers: u32,
@@ -69,36 +69,26 @@ fn expect_verdict<R: Abort + AllocGlobal + Threads + Sync>(
 )
     requires { (1 ≤ workers) × (workers ≤ 64) }
 {
-    let (skew, line, _, status) = *wanted;
-    let settings = Settings {
+    let (skew, line, listing, status) = *wanted;
+    let dump = dump.as_bytes();
+    let single_steps = Settings {
         block: 1,
         workers,
         skew,
     };
-    let texts = (line, "", status);
-    assert!(rt;
-        checks(rt, BUILT_IN, dump.as_bytes(), settings, texts),
-        "by {skew}"
-    );
-}
-
-fn expect_listing<R: Abort + AllocGlobal + Threads + Sync>(
-    rt: &R,
-    dump: &str,
-    workers: u32,
-    wanted: &(u64, &str, &str, u8),
-)
-    requires { (1 ≤ workers) × (workers ≤ 64) }
-{
-    let (skew, _, listing, status) = *wanted;
-    let settings = Settings {
+    let usual = Settings {
         block: BLOCK,
         workers,
         skew,
     };
-    let texts = (listing, "", status);
+    let line = (line, "", status);
+    let listing = (listing, "", status);
     assert!(rt;
-        lists(rt, BUILT_IN, dump.as_bytes(), settings, texts),
+        answers(rt, Command::Check, BUILT_IN, dump, single_steps, line),
+        "by {skew}"
+    );
+    assert!(rt;
+        answers(rt, Command::List, BUILT_IN, dump, usual, listing),
         "by {skew}"
     );
 }
@@ -110,10 +100,8 @@ fn recordings_settle(rt: HostRuntime) -> Result<(), Fail> {
     let dump = dump_of(rt.alloc(), HEAD, EARLY_ANSWER)?;
     let dump = dump.as_str();
     for wanted in WANTED.iter() {
-        expect_verdict(&rt, dump, 1, wanted);
-        expect_verdict(&rt, dump, 3, wanted);
-        expect_listing(&rt, dump, 1, wanted);
-        expect_listing(&rt, dump, 3, wanted);
+        expect_answers(&rt, dump, 1, wanted);
+        expect_answers(&rt, dump, 3, wanted);
     }
     Ok(())
 }
@@ -165,18 +153,29 @@ fn blocks_are_counted_behind_settling(rt: HostRuntime) -> Result<(), Fail> {
         skew: 1,
     };
     assert!(rt;
-        checks(
+        answers(
             &rt,
+            Command::Check,
             BUILT_IN,
             most.as_bytes(),
             SINGLE_STEPS,
             TOO_MANY_BLOCKS
         )
     );
-    assert!(rt; checks(&rt, BUILT_IN, most.as_bytes(), deskewed, NEVER_IDLE));
     assert!(rt;
-        checks(
+        answers(
             &rt,
+            Command::Check,
+            BUILT_IN,
+            most.as_bytes(),
+            deskewed,
+            NEVER_IDLE
+        )
+    );
+    assert!(rt;
+        answers(
+            &rt,
+            Command::Check,
             BUILT_IN,
             one_more.as_bytes(),
             deskewed,
@@ -196,14 +195,17 @@ fn want_of_memory_by_a_skew_is_told(rt: HostRuntime) {
     ) else {
         return;
     };
-    let status = list(
+    let by_three = Settings {
+        block: BLOCK,
+        workers: 1,
+        skew: 3,
+    };
+    let status = status_of(
         &rt,
-        rt.alloc(),
+        Command::List,
         &mut Bytes::new(BUILT_IN),
         &mut Bytes::new(dump.as_bytes()),
-        BLOCK,
-        1,
-        3,
+        by_three,
         &mut out,
         &mut err,
     );

@@ -1,12 +1,11 @@
 //! Readers that fail or never end, and writers that fail, at each place.
 
-use crate::tests::{BODY, HEAD, LISTING, dump_of};
+use crate::tests::{BODY, Command, HEAD, LISTING, USUAL, dump_of, status_of};
 use std::io::{self, Error, ErrorKind, Read, Write};
 use std::process::Abort;
 use std::test::Fail;
 use std::thread::Threads;
 use vme_commands::check::check;
-use vme_commands::list::list;
 use vme_commands::{BLOCK, BUILT_IN};
 use vme_stream::{Bytes, Io};
 use vme_test_streams::{PieceReader, PieceWriter};
@@ -19,13 +18,6 @@ tenure 1 open end -
 cycle 2 S 3D FFFFFE end -
 verdict broken H4 3 DTACK
 ";
-
-/// A command that judges a recording.
-#[derive(Clone, Copy)]
-enum Command {
-    Check,
-    List,
-}
 
 static COMMANDS: [Command; 2] = [Command::Check, Command::List];
 
@@ -77,24 +69,6 @@ impl Write for Deaf {
     }
 }
 
-/// The status with which a command ends.
-fn status_of<R: AllocGlobal + Threads + Sync, B: Source, D: Source>(
-    rt: &R,
-    command: Command,
-    binding: &mut B,
-    dump: &mut D,
-    out: &mut PieceWriter,
-    err: &mut PieceWriter,
-) -> u8 {
-    let (mut out, mut err) = (Io::new(out), Io::new(err));
-    let (out, err) = (&mut out, &mut err);
-    let alloc = rt.alloc();
-    match command {
-        Command::Check => check(rt, alloc, binding, dump, BLOCK, 1, 0, out, err),
-        Command::List => list(rt, alloc, binding, dump, BLOCK, 1, 0, out, err),
-    }
-}
-
 /// Whether a command writes nothing to `out`, writes `text` to `err`, and ends with status 3.
 fn refuses<R: AllocGlobal + Threads + Sync, B: Source, D: Source>(
     rt: &R,
@@ -105,7 +79,15 @@ fn refuses<R: AllocGlobal + Threads + Sync, B: Source, D: Source>(
 ) -> bool {
     let mut out = PieceWriter::new(rt.alloc(), 1000, 1000);
     let mut err = PieceWriter::new(rt.alloc(), 1000, 1000);
-    let status = status_of(rt, command, binding, dump, &mut out, &mut err);
+    let status = status_of(
+        rt,
+        command,
+        binding,
+        dump,
+        USUAL,
+        &mut Io::new(&mut out),
+        &mut Io::new(&mut err),
+    );
     out.bytes.is_empty() && err.bytes.as_slice() == text.as_bytes() && status == 3
 }
 
@@ -247,8 +229,9 @@ fn writes_front<R: AllocGlobal + Threads + Sync>(
         command,
         &mut Bytes::new(BUILT_IN),
         &mut Bytes::new(dump.as_bytes()),
-        &mut out,
-        &mut err,
+        USUAL,
+        &mut Io::new(&mut out),
+        &mut Io::new(&mut err),
     );
     Some(out.bytes.as_slice()) == text.as_bytes().get(..room)
         && err.bytes.as_slice() == message.as_bytes()

@@ -13,7 +13,7 @@ use vme_test_streams::{LimitedSink, WantedAnswer, has_answered};
 use vme_text_commands::bind::bind;
 use vme_text_commands::explain::{InputNames, explain};
 use vme_text_commands::{tell_faults, tell_variables};
-use vme_trace::{Line, Rule};
+use vme_trace::{Line, Rule, Sink, Source};
 
 /// The head of a dump with the six variables of the built-in binding.
 pub(crate) const HEAD: &str = "$timescale 1 ns $end\n$scope module bus $end\n\
@@ -50,7 +50,7 @@ pub(crate) struct Settings {
 }
 
 /// As a command judges without options, but with one worker.
-const USUAL: Settings = Settings {
+pub(crate) const USUAL: Settings = Settings {
     block: BLOCK,
     workers: 1,
     skew: 0,
@@ -63,9 +63,56 @@ pub(crate) const SINGLE_STEPS: Settings = Settings {
     skew: 0,
 };
 
-/// Whether the check of a dump by a binding gives this.
-pub(crate) fn checks<R: AllocGlobal + Threads + Sync>(
+/// A command that judges a recording.
+#[derive(Clone, Copy)]
+pub(crate) enum Command {
+    Check,
+    List,
+}
+
+/// The status with which a command ends.
+pub(crate) fn status_of<R: AllocGlobal + Threads + Sync, B: Source, D: Source, O: Sink, E: Sink>(
     rt: &R,
+    command: Command,
+    binding: &mut B,
+    dump: &mut D,
+    settings: Settings,
+    out: &mut O,
+    err: &mut E,
+) -> u8
+    requires block { (1 ≤ settings.block) × (settings.block ≤ 65536) }
+    requires workers { (1 ≤ settings.workers) × (settings.workers ≤ 64) }
+{
+    match command {
+        Command::Check => check(
+            rt,
+            rt.alloc(),
+            binding,
+            dump,
+            settings.block,
+            settings.workers,
+            settings.skew,
+            out,
+            err,
+        ),
+        Command::List => list(
+            rt,
+            rt.alloc(),
+            binding,
+            dump,
+            settings.block,
+            settings.workers,
+            settings.skew,
+            out,
+            err,
+        ),
+    }
+}
+
+/// Whether a command on a dump, by a binding, answers `wanted`.
+pub(crate) fn answers<R: AllocGlobal + Threads + Sync>(
+    rt: &R,
+    command: Command,
     binding: &[u8],
     dump: &[u8],
     settings: Settings,
@@ -76,26 +123,28 @@ pub(crate) fn checks<R: AllocGlobal + Threads + Sync>(
 {
     let mut out = LimitedSink::new(rt.alloc(), 1000);
     let mut err = LimitedSink::new(rt.alloc(), 1000);
-    let status = check(
+    let status = status_of(
         rt,
-        rt.alloc(),
+        command,
         &mut Bytes::new(binding),
         &mut Bytes::new(dump),
-        settings.block,
-        settings.workers,
-        settings.skew,
+        settings,
         &mut out,
         &mut err,
     );
     has_answered(&out, &err, status, wanted)
 }
 
-fn expect_verdict<R: Abort + AllocGlobal + Threads + Sync>(
+/// Expects that a command writes `text` of a dump, with this status, in blocks of one step, of three and of the usual
+/// size.
+fn expect<R: Abort + AllocGlobal + Threads + Sync>(
     rt: &R,
+    command: Command,
     dump: &str,
     text: &str,
     status: u8,
 ) {
+    let dump = dump.as_bytes();
     let wanted = (text, "", status);
     let three_steps = Settings {
         block: 3,
@@ -103,16 +152,16 @@ fn expect_verdict<R: Abort + AllocGlobal + Threads + Sync>(
         skew: 0,
     };
     assert!(rt;
-        checks(rt, BUILT_IN, dump.as_bytes(), SINGLE_STEPS, wanted),
-        "{dump}"
+        answers(rt, command, BUILT_IN, dump, SINGLE_STEPS, wanted),
+        "{text}"
     );
     assert!(rt;
-        checks(rt, BUILT_IN, dump.as_bytes(), three_steps, wanted),
-        "{dump}"
+        answers(rt, command, BUILT_IN, dump, three_steps, wanted),
+        "{text}"
     );
     assert!(rt;
-        checks(rt, BUILT_IN, dump.as_bytes(), USUAL, wanted),
-        "{dump}"
+        answers(rt, command, BUILT_IN, dump, USUAL, wanted),
+        "{text}"
     );
 }
 
@@ -124,7 +173,14 @@ fn expect_refusal<R: Abort + AllocGlobal + Threads + Sync>(
 ) {
     let wanted = ("", text, 3);
     assert!(rt;
-        checks(rt, binding.as_bytes(), dump.as_bytes(), USUAL, wanted),
+        answers(
+            rt,
+            Command::Check,
+            binding.as_bytes(),
+            dump.as_bytes(),
+            USUAL,
+            wanted
+        ),
         "{text}"
     );
 }
@@ -161,53 +217,9 @@ static VERDICTS: [(&str, &str, u8); 5] = [
 fn verdicts(rt: HostRuntime) -> Result<(), Fail> {
     for (body, text, status) in VERDICTS.iter() {
         let dump = dump_of(rt.alloc(), HEAD, body)?;
-        expect_verdict(&rt, dump.as_str(), text, *status);
+        expect(&rt, Command::Check, dump.as_str(), text, *status);
     }
     Ok(())
-}
-
-/// Whether the listing of a dump by a binding gives this.
-pub(crate) fn lists<R: AllocGlobal + Threads + Sync>(
-    rt: &R,
-    binding: &[u8],
-    dump: &[u8],
-    settings: Settings,
-    wanted: WantedAnswer<'_>,
-) -> bool
-    requires block { (1 ≤ settings.block) × (settings.block ≤ 65536) }
-    requires workers { (1 ≤ settings.workers) × (settings.workers ≤ 64) }
-{
-    let mut out = LimitedSink::new(rt.alloc(), 1000);
-    let mut err = LimitedSink::new(rt.alloc(), 1000);
-    let status = list(
-        rt,
-        rt.alloc(),
-        &mut Bytes::new(binding),
-        &mut Bytes::new(dump),
-        settings.block,
-        settings.workers,
-        settings.skew,
-        &mut out,
-        &mut err,
-    );
-    has_answered(&out, &err, status, wanted)
-}
-
-fn expect_listing<R: Abort + AllocGlobal + Threads + Sync>(
-    rt: &R,
-    dump: &str,
-    text: &str,
-    status: u8,
-) {
-    let wanted = (text, "", status);
-    assert!(rt;
-        lists(rt, BUILT_IN, dump.as_bytes(), SINGLE_STEPS, wanted),
-        "{dump}"
-    );
-    assert!(rt;
-        lists(rt, BUILT_IN, dump.as_bytes(), USUAL, wanted),
-        "{dump}"
-    );
 }
 
 /// Bodies of dumps, and the listing of each and its status.
@@ -231,7 +243,7 @@ verdict broken H4 3 DTACK\n",
 fn listings(rt: HostRuntime) -> Result<(), Fail> {
     for (body, text, status) in LISTINGS.iter() {
         let dump = dump_of(rt.alloc(), HEAD, body)?;
-        expect_listing(&rt, dump.as_str(), text, *status);
+        expect(&rt, Command::List, dump.as_str(), text, *status);
     }
     Ok(())
 }
@@ -261,8 +273,9 @@ fn a_reset_ends_what_is_judged(rt: HostRuntime) -> Result<(), Fail> {
     let binding = reset_binding(rt.alloc())?;
     let listed = (RESET_LISTING, "", 0);
     assert!(rt;
-        lists(
+        answers(
             &rt,
+            Command::List,
             binding.as_bytes(),
             dump.as_bytes(),
             SINGLE_STEPS,
@@ -270,7 +283,7 @@ fn a_reset_ends_what_is_judged(rt: HostRuntime) -> Result<(), Fail> {
         )
     );
     let unbound = "broken H2 at instant 4 time 30 line DS0\n";
-    expect_verdict(&rt, dump.as_str(), unbound, 1);
+    expect(&rt, Command::Check, dump.as_str(), unbound, 1);
     Ok(())
 }
 
@@ -280,7 +293,7 @@ fn aliases(rt: HostRuntime) -> Result<(), Fail> {
 $var wire 1 q DS0 $end $var wire 1 r DS1 $end $var wire 1 s DTACK $end\n\
 $var wire 1 t BERR $end $var wire 1 u IACK $end $enddefinitions $end\n";
     let dump = dump_of(rt.alloc(), head, BODY)?;
-    expect_verdict(&rt, dump.as_str(), "conforming\n", 0);
+    expect(&rt, Command::Check, dump.as_str(), "conforming\n", 0);
     Ok(())
 }
 
@@ -423,15 +436,25 @@ fn blocks(rt: HostRuntime) -> Result<(), Fail> {
         skew: 0,
     };
     assert!(rt;
-        checks(
+        answers(
             &rt,
+            Command::Check,
             BUILT_IN,
             dump.as_bytes(),
             SINGLE_STEPS,
             TOO_MANY_BLOCKS
         )
     );
-    assert!(rt; checks(&rt, BUILT_IN, dump.as_bytes(), two_steps, NEVER_IDLE));
+    assert!(rt;
+        answers(
+            &rt,
+            Command::Check,
+            BUILT_IN,
+            dump.as_bytes(),
+            two_steps,
+            NEVER_IDLE
+        )
+    );
     Ok(())
 }
 
