@@ -5,22 +5,9 @@ use vme_part_command::{
     NamedPart, PartOptions, list_whole, tell_whole, write_joined, write_part_of,
 };
 use vme_stream::{Bytes, Io};
-use vme_test_recordings::BUS_BINDING;
+use vme_test_recordings::{BUS_BINDING, BUS_DEFINITIONS, READ_LISTING};
 use vme_test_streams::{LimitedSink, PieceReader, WantedAnswer, has_answered};
 use vme_trace::Source;
-
-/// The definitions of a dump with the variables of `BUS_BINDING`. Each body below follows them.
-const HEADER: &str = "$timescale 1 ns $end
-$scope module bus $end
-$var wire 1 p AS $end
-$var wire 1 q DS0 $end
-$var wire 1 r DS1 $end
-$var wire 1 s DTACK $end
-$var wire 1 t BERR $end
-$var wire 1 u IACK $end
-$upscope $end
-$enddefinitions $end
-";
 
 /// The first file: a read cycle until the address strobe falls.
 const FIRST: &str = "#0 1p 1q 1r 1s 1t 1u\n#10 0p\n";
@@ -46,18 +33,9 @@ const LATER_FIRST: &str = "#0\n#1 1p 1q 1r 1s 1t 1u\n#10 0p\n";
 /// The second file, with its levels before any time.
 const UNTIMED_SECOND: &str = "$dumpvars 0p 1q 1r 1s 1t 1u $end\n#20 0q\n#30 0s\n";
 
-/// The listing of the whole.
-const LISTING: &str = "vmecheck listing 3
-start 1
-tenure 1 open end -
-cycle 2 S 3D FFFFFE end 5
-transfer 3 of 2 read DTACK 4 close 5
-verdict conforming
-";
-
 /// The dump with the body `body`.
 fn dump_of(alloc: Global, body: &str) -> Result<String, AllocError> {
-    let mut dump = String::from_str(alloc, HEADER)?;
+    let mut dump = String::from_str(alloc, BUS_DEFINITIONS)?;
     dump.push_str(body)?;
     Ok(dump)
 }
@@ -187,7 +165,7 @@ fn tells_the_whole(alloc: Global) -> Option<bool> {
     let third = part_of(alloc, 2, THIRD)?;
     let parts = [third.as_slice(), first.as_slice(), second.as_slice()];
     let verdict = ("conforming\n", "", 0);
-    let listing = (LISTING, "", 0);
+    let listing = (READ_LISTING, "", 0);
     Some(
         tells(alloc, &parts, None, false, verdict)?
             && tells(alloc, &parts, Some(3), false, verdict)?
@@ -212,7 +190,7 @@ fn opens_at_the_first_time(alloc: Global) -> Option<bool> {
         second.as_slice(),
         third.as_slice(),
     ];
-    tells(alloc, &parts, Some(4), true, (LISTING, "", 0))
+    tells(alloc, &parts, Some(4), true, (READ_LISTING, "", 0))
 }
 
 #[test]
@@ -257,7 +235,7 @@ fn tells_by_joins(alloc: Global) -> Option<bool> {
         &[second.as_slice(), some.as_slice(), third.as_slice()],
     )?;
     let parts = [all.as_slice(), second.as_slice()];
-    tells(alloc, &parts, Some(3), true, (LISTING, "", 0))
+    tells(alloc, &parts, Some(3), true, (READ_LISTING, "", 0))
 }
 
 #[test]

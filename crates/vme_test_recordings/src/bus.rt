@@ -1,4 +1,4 @@
-//! A binding of the lines of a bus.
+//! A binding of the lines of a bus, and a dump by it with its listing.
 
 /// A binding of six lines to variables, and of all others but D and SYSRESET to constant levels.
 pub const BUS_BINDING: &str = "\
@@ -25,4 +25,48 @@ BG1 = 1
 BG2 = 1
 BG3 = 1
 IA = 1
+";
+
+/// The definitions of a dump with the variables of [`BUS_BINDING`].
+pub const BUS_DEFINITIONS: &str = "\
+$timescale 1 ns $end
+$scope module bus $end
+$var wire 1 p AS $end
+$var wire 1 q DS0 $end
+$var wire 1 r DS1 $end
+$var wire 1 s DTACK $end
+$var wire 1 t BERR $end
+$var wire 1 u IACK $end
+$upscope $end
+$enddefinitions $end
+";
+
+/// A dump with these definitions, of a read that conforms.
+pub const READ_DUMP: &str = "\
+$timescale 1 ns $end
+$scope module bus $end
+$var wire 1 p AS $end
+$var wire 1 q DS0 $end
+$var wire 1 r DS1 $end
+$var wire 1 s DTACK $end
+$var wire 1 t BERR $end
+$var wire 1 u IACK $end
+$upscope $end
+$enddefinitions $end
+#0 1p 1q 1r 1s 1t 1u
+#10 0p
+#20 0q
+#30 0s
+#40 1p 1q
+#50 1s
+";
+
+/// The listing of that dump by [`BUS_BINDING`].
+pub const READ_LISTING: &str = "\
+vmecheck listing 3
+start 1
+tenure 1 open end -
+cycle 2 S 3D FFFFFE end 5
+transfer 3 of 2 read DTACK 4 close 5
+verdict conforming
 ";

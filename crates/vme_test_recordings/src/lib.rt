@@ -19,7 +19,9 @@
 //!
 //! # Parts
 //!
-//! - `bus`: [`BUS_BINDING`], a binding of six lines to variables.
+//! - `bus`: [`BUS_BINDING`], a binding of six lines to variables; [`BUS_DEFINITIONS`], the
+//!   definitions of a dump with these; [`READ_DUMP`], such a dump, and [`READ_LISTING`], its
+//!   listing.
 //! - `notation`: [`step_of`], the step that words denote; [`push_steps`], the steps of a text.
 //! - `recording`: [`Recording`], a recording as texts; [`opening_of`], the levels at an opening;
 //!   [`capture_of`], the recording itself.
@@ -43,6 +45,6 @@ mod bus;
 mod notation;
 mod recording;
 
-pub use bus::BUS_BINDING;
+pub use bus::{BUS_BINDING, BUS_DEFINITIONS, READ_DUMP, READ_LISTING};
 pub use notation::{push_steps, step_of};
 pub use recording::{Recording, capture_of, opening_of};
