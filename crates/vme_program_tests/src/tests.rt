@@ -6,22 +6,8 @@ use std::thread::Threads;
 use vme_explain::{FileId, PathEntry};
 use vme_program::{Environment, WriteResult, run_words};
 use vme_stream::Bytes;
+use vme_test_recordings::{BUS_BINDING, READ_DUMP, READ_LISTING};
 use vme_test_streams::LimitedSink;
-
-const BINDING: &str =
-    "slots 1\nAS = bus.AS\nDS0 = bus.DS0\nDS1 = bus.DS1\nDTACK = bus.DTACK\nBERR = bus.BERR\n\
-IACK = bus.IACK\nAM0 = 1\nAM1 = 0\nAM2 = 1\nAM3 = 1\nAM4 = 1\nAM5 = 1\nLWORD = 1\nWRITE = 1\nA = 1\nBBSY = 0\nBR = 1\n\
-BG0 = 1\nBG1 = 1\nBG2 = 1\nBG3 = 1\nIA = 1\n";
-
-const DUMP: &str = "$timescale 1 ns $end\n$scope module bus $end\n\
-$var wire 1 p AS $end\n$var wire 1 q DS0 $end\n$var wire 1 r DS1 $end\n\
-$var wire 1 s DTACK $end\n$var wire 1 t BERR $end\n$var wire 1 u IACK $end\n\
-$upscope $end\n$enddefinitions $end\n\
-#0 1p 1q 1r 1s 1t 1u\n#10 0p\n#20 0q\n#30 0s\n#40 1p 1q\n#50 1s\n";
-
-const LISTING: &str =
-    "vmecheck listing 3\nstart 1\ntenure 1 open end -\ncycle 2 S 3D FFFFFE end 5\n\
-transfer 3 of 2 read DTACK 4 close 5\nverdict conforming\n";
 
 /// How the annotated dump begins.
 const ANNOTATED: &str = "$timescale 1 ns $end\n$scope module bus $end\n\
@@ -59,11 +45,11 @@ impl<'a> Environment for Shelf<'a> {
 
     fn open_file(&self, name: &str) -> Option<Bytes<'a>> {
         if name == "binding" {
-            Some(Bytes::new(BINDING.as_bytes()))
+            Some(Bytes::new(BUS_BINDING.as_bytes()))
         } else if name == "dump" {
-            Some(Bytes::new(DUMP.as_bytes()))
+            Some(Bytes::new(READ_DUMP.as_bytes()))
         } else if name == "listing" {
-            Some(Bytes::new(LISTING.as_bytes()))
+            Some(Bytes::new(READ_LISTING.as_bytes()))
         } else if name == "part" {
             Some(Bytes::new(self.part))
         } else {
@@ -72,7 +58,7 @@ impl<'a> Environment for Shelf<'a> {
     }
 
     fn input(&self) -> Bytes<'a> {
-        Bytes::new(DUMP.as_bytes())
+        Bytes::new(READ_DUMP.as_bytes())
     }
 
     fn is_terminal(&self) -> bool {
@@ -219,7 +205,7 @@ fn happy_paths(rt: HostRuntime) -> Result<(), Fail> {
     for (line, out, ended) in [
         ("vmecheck", "conforming\n", (0, 0, 0)),
         ("vmecheck check binding dump", "conforming\n", (0, 0, 0)),
-        ("vmecheck list binding dump", LISTING, (0, 0, 0)),
+        ("vmecheck list binding dump", READ_LISTING, (0, 0, 0)),
         (
             "vmecheck list --times binding dump",
             "vmecheck listing 3 times\nstart 1@0\ntenure 1@0 open end -\ncycle 2@10 S 3D FFFFFE end 5@40\n",
@@ -457,7 +443,7 @@ fn parts_are_made_joined_and_told(rt: HostRuntime) -> Result<(), Fail> {
             &rt,
             "vmecheck tell --list --files 1 part part",
             part,
-            LISTING.as_bytes(),
+            READ_LISTING.as_bytes(),
             Some(0)
         )
     );
