@@ -10,17 +10,9 @@ use vme_stream::{
     verdict_on, verdict_status,
 };
 use vme_summary::NoVerdict;
+use vme_test_recordings::{BUS_BINDING, BUS_DEFINITIONS};
 use vme_test_streams::{LimitedSink, WantedAnswer, has_answered};
 use vme_trace::{Break, Line, Rule, Verdict};
-
-/// Six lines are recorded, and the bus is busy.
-const BINDING: &str = "slots 1\nAS = bus.AS\nDS0 = bus.DS0\nDS1 = bus.DS1\nDTACK = bus.DTACK\n\
-BERR = bus.BERR\nIACK = bus.IACK\nAM0 = 1\nAM1 = 0\nAM2 = 1\nAM3 = 1\nAM4 = 1\nAM5 = 1\nLWORD = 1\n\
-WRITE = 1\nA = 1\nBBSY = 0\nBR = 1\nBG0 = 1\nBG1 = 1\nBG2 = 1\nBG3 = 1\nIA = 1\n";
-
-const HEAD: &str = "$scope module bus $end\n$var wire 1 p AS $end\n$var wire 1 q DS0 $end\n\
-$var wire 1 r DS1 $end\n$var wire 1 s DTACK $end\n$var wire 1 t BERR $end\n$var wire 1 u IACK $end\n\
-$upscope $end\n$enddefinitions $end\n";
 
 /// A read.
 const READ: &str = "#0 1p 1q 1r 1s 1t 1u\n#10 0p\n#20 0q\n#30 0s\n#40 1p 1q\n#50 1s\n";
@@ -66,7 +58,7 @@ verdict broken H4 3 DTACK\n",
 ];
 
 fn dump_of(alloc: Global, body: &str) -> Result<String, AllocError> {
-    let mut dump = String::from_str(alloc, HEAD)?;
+    let mut dump = String::from_str(alloc, BUS_DEFINITIONS)?;
     dump.push_str(body)?;
     Ok(dump)
 }
@@ -93,9 +85,9 @@ fn has_line(found: Result<Verdict, Refusal>, line: &str) -> bool {
 
 /// Whether a dump has this verdict in blocks of one, three and 16,384 steps.
 fn has_verdict(alloc: Global, dump: &str, line: &str) -> bool {
-    has_line(judged(alloc, BINDING, dump, 1), line)
-        && has_line(judged(alloc, BINDING, dump, 3), line)
-        && has_line(judged(alloc, BINDING, dump, 16_384), line)
+    has_line(judged(alloc, BUS_BINDING, dump, 1), line)
+        && has_line(judged(alloc, BUS_BINDING, dump, 3), line)
+        && has_line(judged(alloc, BUS_BINDING, dump, 16_384), line)
 }
 
 /// Whether the dump with this body has this verdict in blocks of each of these sizes.
@@ -115,7 +107,7 @@ fn worked_recordings_have_their_verdicts(rt: HostRuntime) {
 
 /// The verdict on a recording whose inputs are read before it is made.
 fn judged_in(alloc: Global, dump: &[u8]) -> Result<Verdict, Refusal> {
-    let bound = binding_in(alloc, BINDING.as_bytes())?;
+    let bound = binding_in(alloc, BUS_BINDING.as_bytes())?;
     match recorded_in(alloc, &bound, dump)? {
         Ok(capture) => verdict_on(alloc, &capture, 1),
         Err(fault) => Err(Refusal::BadBinding(fault)),
@@ -124,7 +116,7 @@ fn judged_in(alloc: Global, dump: &[u8]) -> Result<Verdict, Refusal> {
 
 /// The verdict on a recording whose binding is read before its dump.
 fn judged_by_and_by(alloc: Global, dump: &[u8]) -> Result<Verdict, Refusal> {
-    let bound = binding_from(alloc, &mut Bytes::new(BINDING.as_bytes()))?;
+    let bound = binding_from(alloc, &mut Bytes::new(BUS_BINDING.as_bytes()))?;
     match recorded_from(alloc, &bound, &mut Bytes::new(dump))? {
         Ok(capture) => verdict_on(alloc, &capture, 16_384),
         Err(fault) => Err(Refusal::BadBinding(fault)),
@@ -210,8 +202,15 @@ fn the_first_reason_is_answered(rt: HostRuntime) {
         kind: BindFaultKind::NoSuchPath,
     });
     assert!(rt; is_refused(rt.alloc(), "AS = 1\n", "AS\n", &bad_binding));
-    assert!(rt; is_refused(rt.alloc(), BINDING, "AS\n", &bad_dump));
-    assert!(rt; is_refused(rt.alloc(), BINDING, "$enddefinitions $end\n#0\n", &no_path));
+    assert!(rt; is_refused(rt.alloc(), BUS_BINDING, "AS\n", &bad_dump));
+    assert!(rt;
+        is_refused(
+            rt.alloc(),
+            BUS_BINDING,
+            "$enddefinitions $end\n#0\n",
+            &no_path
+        )
+    );
 }
 
 /// Whether a refusal has this line, and this status.
