@@ -13,87 +13,16 @@ use vme_pod_check::{
 };
 use vme_stream::{Bytes, Refusal, binding_in, recorded_in};
 use vme_summary::Judged;
+use vme_test_recordings::{BUS_BINDING, BUS_DEFINITIONS, READ_DUMP};
 use vme_test_streams::{LimitedSink, WantedAnswer, has_answered};
 use vme_trace::{Block, Capture, Verdict};
 
-const BINDING: &[u8] = b"slots 1
-AS = bus.AS
-DS0 = bus.DS0
-DS1 = bus.DS1
-DTACK = bus.DTACK
-BERR = bus.BERR
-IACK = bus.IACK
-AM0 = 1
-AM1 = 0
-AM2 = 1
-AM3 = 1
-AM4 = 1
-AM5 = 1
-LWORD = 1
-WRITE = 1
-A = 1
-BBSY = 0
-BR = 1
-BG0 = 1
-BG1 = 1
-BG2 = 1
-BG3 = 1
-IA = 1
-";
-
-/// A read, of six steps.
-const READ: &[u8] = b"$timescale 1 ns $end
-$scope module bus $end
-$var wire 1 p AS $end
-$var wire 1 q DS0 $end
-$var wire 1 r DS1 $end
-$var wire 1 s DTACK $end
-$var wire 1 t BERR $end
-$var wire 1 u IACK $end
-$upscope $end
-$enddefinitions $end
-#0 1p 1q 1r 1s 1t 1u
-#10 0p
-#20 0q
-#30 0s
-#40 1p 1q
-#50 1s
-";
-
-/// The read without a strobe.
-const UNSTROBED: &[u8] = b"$timescale 1 ns $end
-$scope module bus $end
-$var wire 1 p AS $end
-$var wire 1 q DS0 $end
-$var wire 1 r DS1 $end
-$var wire 1 s DTACK $end
-$var wire 1 t BERR $end
-$var wire 1 u IACK $end
-$upscope $end
-$enddefinitions $end
-#0 1p 1q 1r 1s 1t 1u
-#10 0p
-#20 0s
-#40 1p
-#50 1s
-";
-
-const HEAD: &str = "$timescale 1 ns $end
-$scope module bus $end
-$var wire 1 p AS $end
-$var wire 1 q DS0 $end
-$var wire 1 r DS1 $end
-$var wire 1 s DTACK $end
-$var wire 1 t BERR $end
-$var wire 1 u IACK $end
-$upscope $end
-$enddefinitions $end
-";
-
 /// The recording of the read.
 fn recorded_read(alloc: Global) -> Option<Capture> {
-    let binding = binding_in(alloc, BINDING).ok()?;
-    recorded_in(alloc, &binding, READ).ok()?.ok()
+    let binding = binding_in(alloc, BUS_BINDING.as_bytes()).ok()?;
+    recorded_in(alloc, &binding, READ_DUMP.as_bytes())
+        .ok()?
+        .ok()
 }
 
 /// Whether a check of the inputs writes `told`, to a standard output with the room `room`. None if memory runs out.
@@ -167,7 +96,7 @@ fn tells_by<R: Threads + Wait + Sync>(
         workers,
         seed,
     };
-    tells(rt, alloc, (BINDING, dump), plan, 1000, told)
+    tells(rt, alloc, (BUS_BINDING.as_bytes(), dump), plan, 1000, told)
 }
 
 /// Whether a check of `dump` writes `told`, by each of several plans.
@@ -193,13 +122,21 @@ fn plans_tell<R: Threads + Wait + Sync>(
 #[test]
 fn plans_change_nothing(rt: HostRuntime) {
     let conforming = ("conforming\n", "", 0);
-    assert!(rt; plans_tell(&rt, rt.alloc(), READ, conforming));
+    assert!(rt; plans_tell(&rt, rt.alloc(), READ_DUMP.as_bytes(), conforming));
+}
+
+/// Whether a check of the read without a strobe writes that a rule is broken, by each of several plans.
+fn plans_tell_a_break<R: Threads + Wait + Sync>(rt: &R, alloc: Global) -> Option<bool> {
+    let unstrobed = READ_DUMP
+        .replace(alloc, "#20 0q\n#30 0s\n#40 1p 1q", "#20 0s\n#40 1p")
+        .ok()?;
+    let broken = ("broken H4 at instant 3 time 20 line DTACK\n", "", 1);
+    Some(plans_tell(rt, alloc, unstrobed.as_bytes(), broken))
 }
 
 #[test]
 fn plans_change_no_break(rt: HostRuntime) {
-    let broken = ("broken H4 at instant 3 time 20 line DTACK\n", "", 1);
-    assert!(rt; plans_tell(&rt, rt.alloc(), UNSTROBED, broken));
+    assert!(rt; plans_tell_a_break(&rt, rt.alloc()) == Some(true));
 }
 
 const TWO_WORKERS: Plan = Plan {
@@ -370,12 +307,6 @@ fn two_pods(rt: HostRuntime) {
     assert!(rt; is_whole(&rt, rt.alloc()));
 }
 
-/// Pairs of a binding and a dump that are refused, each with the line of the refusal.
-static REFUSED: [(&[u8], &[u8], &str); 2] = [
-    (b"AS = 0\n", READ, "vmecheck: binding line 1: SlotsFirst\n"),
-    (BINDING, b"", "vmecheck: dump line 1: NoEndDefinitions\n"),
-];
-
 /// Whether a binding and a dump, by two workers and a seed, are refused with the line `text` and status 3.
 fn is_refused<R: Threads + Wait + Sync>(
     rt: &R,
@@ -386,14 +317,21 @@ fn is_refused<R: Threads + Wait + Sync>(
     tells(rt, alloc, inputs, TWO_WORKERS, 1000, ("", text, 3))
 }
 
-/// Whether each of these inputs is refused.
+/// Whether a binding without slots, and a dump without definitions, are refused.
 fn inputs_are_refused<R: Threads + Wait + Sync>(rt: &R, alloc: Global) -> bool {
-    for (binding, dump, text) in REFUSED.iter() {
-        if !is_refused(rt, alloc, (binding, dump), text) {
-            return false;
-        }
-    }
-    true
+    let unslotted = ("AS = 0\n".as_bytes(), READ_DUMP.as_bytes());
+    let undefined = (BUS_BINDING.as_bytes(), "".as_bytes());
+    is_refused(
+        rt,
+        alloc,
+        unslotted,
+        "vmecheck: binding line 1: SlotsFirst\n",
+    ) && is_refused(
+        rt,
+        alloc,
+        undefined,
+        "vmecheck: dump line 1: NoEndDefinitions\n",
+    )
 }
 
 #[test]
@@ -403,7 +341,7 @@ fn refusals_are_told(rt: HostRuntime) {
 
 /// A dump of `steps` steps, in which AS goes low and high in turn.
 fn long_dump(alloc: Global, steps: u32) -> Option<String> {
-    let mut dump = String::from_str(alloc, HEAD).ok()?;
+    let mut dump = String::from_str(alloc, BUS_DEFINITIONS).ok()?;
     for step in 0..steps {
         let change = format!(in alloc; "#{step} {}p\n", step % 2).ok()?;
         dump.push_str(change.as_str()).ok()?;
@@ -417,7 +355,7 @@ fn many_are_refused<R: Threads + Wait + Sync>(rt: &R, alloc: Global) -> bool {
         Some(dump) => is_refused(
             rt,
             alloc,
-            (BINDING, dump.as_str().as_bytes()),
+            (BUS_BINDING.as_bytes(), dump.as_bytes()),
             "vmecheck: too many blocks\n",
         ),
         None => false,
@@ -432,7 +370,8 @@ fn too_many_blocks_are_told(rt: HostRuntime) {
 #[test]
 fn a_verdict_that_is_not_written_is_told(rt: HostRuntime) {
     let unwritten = ("", "vmecheck: cannot write\n", 5);
-    assert!(rt; tells(&rt, rt.alloc(), (BINDING, READ), TWO_WORKERS, 0, unwritten));
+    let inputs = (BUS_BINDING.as_bytes(), READ_DUMP.as_bytes());
+    assert!(rt; tells(&rt, rt.alloc(), inputs, TWO_WORKERS, 0, unwritten));
 }
 
 /// Whether the reason has the line `text` and the status `status`.
