@@ -1,9 +1,10 @@
 //! Inputs that come in pieces, readers that fail, and outputs that are full.
 
-use crate::tests::{BINDING, DUMP, LISTING, confirms_from};
+use crate::tests::confirms_from;
 use std::alloc::Global;
 use std::io::{self, Read};
 use vme_stream::{Bytes, Io};
+use vme_test_recordings::{BUS_BINDING, READ_DUMP, READ_LISTING};
 use vme_test_streams::{PieceReader, WantedAnswer};
 use vme_trace::Source;
 
@@ -47,7 +48,7 @@ fn confirms<D: Source + Drop, L: Source + Drop>(
     listing: L,
     wanted: WantedAnswer<'_>,
 ) -> bool {
-    confirms_from(alloc, BINDING, &mut dump, listing, 0, 1000, wanted)
+    confirms_from(alloc, BUS_BINDING, &mut dump, listing, 0, 1000, wanted)
 }
 
 /// Whether the listing is confirmed where a read gives at most `of_dump` bytes of the dump and `of_listing` of the
@@ -55,8 +56,8 @@ fn confirms<D: Source + Drop, L: Source + Drop>(
 fn confirms_in_pieces(alloc: Global, of_dump: usize, of_listing: usize) -> bool {
     confirms(
         alloc,
-        in_pieces(DUMP, of_dump),
-        in_pieces(LISTING, of_listing),
+        in_pieces(READ_DUMP, of_dump),
+        in_pieces(READ_LISTING, of_listing),
         ("confirmed\n", "", 0),
     )
 }
@@ -73,15 +74,15 @@ fn pieces_of_any_length(rt: HostRuntime) {
 fn tells_torn_dump(alloc: Global, place: usize) -> bool {
     confirms(
         alloc,
-        torn_at(DUMP, place, 1),
-        Bytes::new(LISTING.as_bytes()),
+        torn_at(READ_DUMP, place, 1),
+        Bytes::new(READ_LISTING.as_bytes()),
         ("", "vmecheck: cannot read dump\n", 3),
     )
 }
 
 #[test]
 fn torn_dumps(rt: HostRuntime) {
-    for place in 0..=DUMP.len() {
+    for place in 0..=READ_DUMP.len() {
         assert!(rt; tells_torn_dump(rt.alloc(), place), "at {place}");
     }
 }
@@ -90,25 +91,25 @@ fn torn_dumps(rt: HostRuntime) {
 fn tells_torn_listing(alloc: Global, place: usize) -> bool {
     confirms(
         alloc,
-        Bytes::new(DUMP.as_bytes()),
-        torn_at(LISTING, place, 7),
+        Bytes::new(READ_DUMP.as_bytes()),
+        torn_at(READ_LISTING, place, 7),
         ("", "vmecheck: cannot read listing\n", 3),
     )
 }
 
 #[test]
 fn torn_listings(rt: HostRuntime) {
-    for place in 0..=LISTING.len() {
+    for place in 0..=READ_LISTING.len() {
         assert!(rt; tells_torn_listing(rt.alloc(), place), "at {place}");
     }
 }
 
 #[test]
 fn full_outputs(rt: HostRuntime) {
-    let mut dump = Bytes::new(DUMP.as_bytes());
-    let listing = Bytes::new(LISTING.as_bytes());
+    let mut dump = Bytes::new(READ_DUMP.as_bytes());
+    let listing = Bytes::new(READ_LISTING.as_bytes());
     let wanted = ("", "vmecheck: cannot write\n", 5);
-    assert!(rt; confirms_from(rt.alloc(), BINDING, &mut dump, listing, 0, 0, wanted));
+    assert!(rt; confirms_from(rt.alloc(), BUS_BINDING, &mut dump, listing, 0, 0, wanted));
 }
 
 /// A listing of more bytes than a dump may have.
@@ -118,7 +119,7 @@ fn a_long_listing(rt: HostRuntime) {
         header: b"vmecheck listing 3\n",
         left: 300_000_000,
     };
-    let dump = Bytes::new(DUMP.as_bytes());
+    let dump = Bytes::new(READ_DUMP.as_bytes());
     let wanted = ("", "vmecheck: listing row 1: BadRow\n", 3);
     assert!(rt; confirms(rt.alloc(), dump, Io::new(line_feeds), wanted));
 }

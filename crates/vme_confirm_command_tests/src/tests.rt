@@ -3,69 +3,17 @@
 use std::alloc::Global;
 use vme_confirm_command::confirm::confirm_with;
 use vme_stream::{Bytes, Io};
+use vme_test_recordings::{BUS_BINDING, READ_DUMP, READ_LISTING};
 use vme_test_streams::{LimitedSink, PieceReader, WantedAnswer, has_answered};
 use vme_trace::Source;
-
-pub(crate) const BINDING: &[u8] = b"slots 1
-AS = bus.AS
-DS0 = bus.DS0
-DS1 = bus.DS1
-DTACK = bus.DTACK
-BERR = bus.BERR
-IACK = bus.IACK
-AM0 = 1
-AM1 = 0
-AM2 = 1
-AM3 = 1
-AM4 = 1
-AM5 = 1
-LWORD = 1
-WRITE = 1
-A = 1
-BBSY = 0
-BR = 1
-BG0 = 1
-BG1 = 1
-BG2 = 1
-BG3 = 1
-IA = 1
-";
-
-/// A dump of one read cycle.
-pub(crate) const DUMP: &str = "$timescale 1 ns $end
-$scope module bus $end
-$var wire 1 p AS $end
-$var wire 1 q DS0 $end
-$var wire 1 r DS1 $end
-$var wire 1 s DTACK $end
-$var wire 1 t BERR $end
-$var wire 1 u IACK $end
-$upscope $end
-$enddefinitions $end
-#0 1p 1q 1r 1s 1t 1u
-#10 0p
-#20 0q
-#30 0s
-#40 1p 1q
-#50 1s
-";
 
 /// A dump with no path of the binding.
 const UNBOUND: &str = "$enddefinitions $end\n";
 
-/// The listing of the dump by the binding.
-pub(crate) const LISTING: &str = "vmecheck listing 3
-start 1
-tenure 1 open end -
-cycle 2 S 3D FFFFFE end 5
-transfer 3 of 2 read DTACK 4 close 5
-verdict conforming
-";
-
 /// Whether the comparison of a listing with that of a dump gives this, written to a sink with room for `room` bytes.
 pub(crate) fn confirms_from<D: Source, L: Source + Drop>(
     alloc: Global,
-    binding: &[u8],
+    binding: &str,
     dump: &mut D,
     listing: L,
     skew: u64,
@@ -76,7 +24,7 @@ pub(crate) fn confirms_from<D: Source, L: Source + Drop>(
     let mut err = LimitedSink::new(alloc, 1000);
     let (status, _) = confirm_with(
         alloc,
-        &mut Bytes::new(binding),
+        &mut Bytes::new(binding.as_bytes()),
         dump,
         listing,
         skew,
@@ -89,7 +37,7 @@ pub(crate) fn confirms_from<D: Source, L: Source + Drop>(
 /// Whether the comparison of a listing with that of a dump gives this.
 fn confirms<L: Source + Drop>(
     alloc: Global,
-    binding: &[u8],
+    binding: &str,
     dump: &str,
     listing: L,
     skew: u64,
@@ -106,9 +54,9 @@ fn confirms_other_listing(
     new: &str,
     wanted: WantedAnswer<'_>,
 ) -> Option<bool> {
-    let listing = LISTING.replace(alloc, old, new).ok()?;
+    let listing = READ_LISTING.replace(alloc, old, new).ok()?;
     let listing = Bytes::new(listing.as_bytes());
-    Some(confirms(alloc, BINDING, DUMP, listing, 0, wanted))
+    Some(confirms(alloc, BUS_BINDING, READ_DUMP, listing, 0, wanted))
 }
 
 /// Whether the comparison of the dump, with `new` in place of `old`, and a listing gives this.
@@ -119,9 +67,9 @@ fn confirms_other_dump(
     listing: &str,
     wanted: WantedAnswer<'_>,
 ) -> Option<bool> {
-    let dump = DUMP.replace(alloc, old, new).ok()?;
+    let dump = READ_DUMP.replace(alloc, old, new).ok()?;
     let listing = Bytes::new(listing.as_bytes());
-    Some(confirms(alloc, BINDING, dump.as_str(), listing, 0, wanted))
+    Some(confirms(alloc, BUS_BINDING, dump.as_str(), listing, 0, wanted))
 }
 
 /// A text in the listing, the text that replaces it, what is written, and the status.
@@ -197,7 +145,7 @@ fn other_verdicts(rt: HostRuntime) {
 
 /// A text in the listing, the text that replaces it, and the message about the fault.
 static LISTING_FAULTS: [(&str, &str, &str); 6] = [
-    (LISTING, "", "vmecheck: listing header\n"),
+    (READ_LISTING, "", "vmecheck: listing header\n"),
     ("listing 3", "listing 4", "vmecheck: listing header\n"),
     (
         "verdict conforming\n",
@@ -223,11 +171,11 @@ fn listing_faults(rt: HostRuntime) {
 }
 
 /// Bindings and dumps, and the message about each, where the listing can't be read.
-static TOLD_BEFORE: [(&[u8], &str, &str); 4] = [
-    (b"slots 22", "", "vmecheck: binding line 1: SlotsFirst\n"),
-    (BINDING, "", "vmecheck: dump line 1: NoEndDefinitions\n"),
-    (BINDING, UNBOUND, "vmecheck: cannot read listing\n"),
-    (BINDING, DUMP, "vmecheck: cannot read listing\n"),
+static TOLD_BEFORE: [(&str, &str, &str); 4] = [
+    ("slots 22", "", "vmecheck: binding line 1: SlotsFirst\n"),
+    (BUS_BINDING, "", "vmecheck: dump line 1: NoEndDefinitions\n"),
+    (BUS_BINDING, UNBOUND, "vmecheck: cannot read listing\n"),
+    (BUS_BINDING, READ_DUMP, "vmecheck: cannot read listing\n"),
 ];
 
 #[test]
@@ -247,16 +195,20 @@ fn a_fault_of_a_body_is_told_before_the_listing(rt: HostRuntime) {
     let alloc = rt.alloc();
     let wanted = ("", "vmecheck: dump line 16: UndeclaredCode\n", 3);
     assert!(rt; confirms_other_dump(alloc, "#50 1s", "#50 1!", "", wanted) == Some(true));
-    assert!(rt; confirms_other_dump(alloc, "#50 1s", "#50 1!", LISTING, wanted) == Some(true));
+    assert!(rt; confirms_other_dump(alloc, "#50 1s", "#50 1!", READ_LISTING, wanted) == Some(true));
 }
 
 /// Dumps with no path of the binding, listings, and the message.
 static UNBOUND_DUMPS: [(&str, &str, &str); 3] = [
     (UNBOUND, "", "vmecheck: listing header\n"),
-    (UNBOUND, LISTING, "vmecheck: binding line 2: NoSuchPath\n"),
+    (
+        UNBOUND,
+        READ_LISTING,
+        "vmecheck: binding line 2: NoSuchPath\n",
+    ),
     (
         "$enddefinitions $end\n1!\n",
-        LISTING,
+        READ_LISTING,
         "vmecheck: dump line 2: UndeclaredCode\n",
     ),
 ];
@@ -267,7 +219,7 @@ fn binding_that_makes_no_recording_is_told_last(rt: HostRuntime) {
         let listing = Bytes::new(listing.as_bytes());
         let wanted = ("", *text, 3);
         assert!(rt;
-            confirms(rt.alloc(), BINDING, dump, listing, 0, wanted),
+            confirms(rt.alloc(), BUS_BINDING, dump, listing, 0, wanted),
             "{text}"
         );
     }
@@ -284,9 +236,9 @@ fn want_of_memory_is_told(rt: HostRuntime) {
     };
     let (ended, _) = confirm_with(
         rt.alloc(),
-        &mut Bytes::new(BINDING),
-        &mut Bytes::new(DUMP.as_bytes()),
-        Bytes::new(LISTING.as_bytes()),
+        &mut Bytes::new(BUS_BINDING.as_bytes()),
+        &mut Bytes::new(READ_DUMP.as_bytes()),
+        Bytes::new(READ_LISTING.as_bytes()),
         3,
         &mut out,
         &mut err,
@@ -367,38 +319,11 @@ fn a_listing_is_confirmed_by_its_skew(rt: HostRuntime) {
         let listing = Bytes::new(listing.as_bytes());
         let wanted = (*text, "", *status);
         assert!(rt;
-            confirms(rt.alloc(), BINDING, LATE_STROBE, listing, *skew, wanted),
+            confirms(rt.alloc(), BUS_BINDING, LATE_STROBE, listing, *skew, wanted),
             "{skew} {text}"
         );
     }
 }
-
-/// The binding, with one more line, which binds the system reset.
-const RESET_BINDING: &[u8] = b"slots 1
-AS = bus.AS
-DS0 = bus.DS0
-DS1 = bus.DS1
-DTACK = bus.DTACK
-BERR = bus.BERR
-IACK = bus.IACK
-AM0 = 1
-AM1 = 0
-AM2 = 1
-AM3 = 1
-AM4 = 1
-AM5 = 1
-LWORD = 1
-WRITE = 1
-A = 1
-BBSY = 0
-BR = 1
-BG0 = 1
-BG1 = 1
-BG2 = 1
-BG3 = 1
-IA = 1
-SYSRESET = bus.SYSRESET
-";
 
 /// A dump of a read that a reset ends, after which the bus is idle again.
 const RESET: &str = "$timescale 1 ns $end
@@ -431,9 +356,16 @@ tenure 6 open end -
 verdict conforming
 ";
 
-#[test]
-fn a_reset_is_confirmed(rt: HostRuntime) {
+/// Whether the listing of that dump is confirmed, by the binding with one more line, which binds the system reset.
+fn confirms_a_reset(alloc: Global) -> Option<bool> {
+    let mut binding = String::from_str(alloc, BUS_BINDING).ok()?;
+    binding.push_str("SYSRESET = bus.SYSRESET\n").ok()?;
     let listing = Bytes::new(RESET_LISTING.as_bytes());
     let wanted = ("confirmed\n", "", 0);
-    assert!(rt; confirms(rt.alloc(), RESET_BINDING, RESET, listing, 0, wanted));
+    Some(confirms(alloc, binding.as_str(), RESET, listing, 0, wanted))
+}
+
+#[test]
+fn a_reset_is_confirmed(rt: HostRuntime) {
+    assert!(rt; confirms_a_reset(rt.alloc()) == Some(true));
 }
