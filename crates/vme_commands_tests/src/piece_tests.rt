@@ -1,6 +1,6 @@
 //! A dump that is judged in pieces: the verdict and the listing are those of the whole text, wherever it is cut.
 
-use crate::tests::{Command, HEAD, LISTING};
+use crate::tests::Command;
 use std::alloc::Global;
 use std::process::Abort;
 use std::test::Fail;
@@ -9,6 +9,7 @@ use vme_commands::check::check_by;
 use vme_commands::list::list_by;
 use vme_commands::{BLOCK, BUILT_IN, Workers};
 use vme_stream::{Bytes, Io};
+use vme_test_recordings::{BUS_DEFINITIONS, READ_LISTING};
 use vme_test_streams::{LimitedSink, PieceReader, WantedAnswer, has_answered};
 
 /// How long the pieces are that a dump is cut into. The longest is longer than each dump here.
@@ -36,7 +37,7 @@ struct Wanted {
 
 const CONFORMING: Wanted = Wanted {
     line: "conforming\n",
-    listing: LISTING,
+    listing: READ_LISTING,
     fault: "",
     status: 0,
 };
@@ -170,11 +171,11 @@ static BODIES: [(&str, &str); 9] = [
 #[test]
 fn dumps_in_pieces(rt: HostRuntime) -> Result<(), Fail> {
     for (body, fault) in BODIES.iter() {
-        let mut dump = String::from_str(rt.alloc(), HEAD)?;
+        let mut dump = String::from_str(rt.alloc(), BUS_DEFINITIONS)?;
         dump.push_str(body)?;
         expect_pieces(&rt, dump.as_str(), wanted_of(fault));
     }
-    expect_pieces(&rt, HEAD, NEVER_IDLE);
+    expect_pieces(&rt, BUS_DEFINITIONS, NEVER_IDLE);
     Ok(())
 }
 

@@ -3,7 +3,7 @@
 ghost use Rattle.std.specs.Prelude.{◌≤◌};
 
 use crate::tests::{
-    Command, HEAD, NEVER_IDLE, SINGLE_STEPS, Settings, TOO_MANY_BLOCKS, answers, dump_of, explains,
+    Command, NEVER_IDLE, SINGLE_STEPS, Settings, TOO_MANY_BLOCKS, answers, dump_of, explains,
     many_steps, status_of,
 };
 use std::process::Abort;
@@ -11,6 +11,7 @@ use std::test::Fail;
 use std::thread::Threads;
 use vme_commands::{BLOCK, BUILT_IN, unsettled};
 use vme_stream::Bytes;
+use vme_test_recordings::BUS_DEFINITIONS;
 use vme_test_streams::{LimitedSink, has_answered};
 
 /// The body of a dump of a read whose strobe is recorded 3 time units after its answer.
@@ -97,7 +98,7 @@ fn expect_answers<R: Abort + AllocGlobal + Threads + Sync>(
 fn recordings_settle(rt: HostRuntime) -> Result<(), Fail> {
     // laws of a skew of 0, which do nothing at run time: each public function is called once
     unsettled();
-    let dump = dump_of(rt.alloc(), HEAD, EARLY_ANSWER)?;
+    let dump = dump_of(rt.alloc(), BUS_DEFINITIONS, EARLY_ANSWER)?;
     let dump = dump.as_str();
     for wanted in WANTED.iter() {
         expect_answers(&rt, dump, 1, wanted);
@@ -124,7 +125,7 @@ static EXPLAINED: [(u64, &str, u8); 4] = [
 
 #[test]
 fn an_explanation_is_of_what_settled(rt: HostRuntime) -> Result<(), Fail> {
-    let dump = dump_of(rt.alloc(), HEAD, EARLY_ANSWER)?;
+    let dump = dump_of(rt.alloc(), BUS_DEFINITIONS, EARLY_ANSWER)?;
     for (skew, text, status) in EXPLAINED.iter() {
         assert!(rt;
             explains(
@@ -145,8 +146,8 @@ fn an_explanation_is_of_what_settled(rt: HostRuntime) -> Result<(), Fail> {
 /// one. So 8,192 steps make 4,096 blocks of one step, as many as there may be, and one step more makes one too many.
 #[test]
 fn blocks_are_counted_behind_settling(rt: HostRuntime) -> Result<(), Fail> {
-    let most = many_steps(rt.alloc(), HEAD, 8192)?;
-    let one_more = many_steps(rt.alloc(), HEAD, 8193)?;
+    let most = many_steps(rt.alloc(), BUS_DEFINITIONS, 8192)?;
+    let one_more = many_steps(rt.alloc(), BUS_DEFINITIONS, 8193)?;
     let deskewed = Settings {
         block: 1,
         workers: 1,
@@ -189,7 +190,7 @@ fn blocks_are_counted_behind_settling(rt: HostRuntime) -> Result<(), Fail> {
 #[test]
 fn want_of_memory_by_a_skew_is_told(rt: HostRuntime) {
     let (Ok(dump), Ok(mut out), Ok(mut err)) = (
-        dump_of(rt.alloc(), HEAD, EARLY_ANSWER),
+        dump_of(rt.alloc(), BUS_DEFINITIONS, EARLY_ANSWER),
         LimitedSink::with_capacity(rt.alloc(), 200),
         LimitedSink::with_capacity(rt.alloc(), 200),
     ) else {

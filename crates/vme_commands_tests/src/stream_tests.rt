@@ -1,6 +1,6 @@
 //! Readers that fail or never end, and writers that fail, at each place.
 
-use crate::tests::{BODY, Command, HEAD, LISTING, USUAL, dump_of, status_of};
+use crate::tests::{BODY, Command, USUAL, dump_of, status_of};
 use std::io::{self, Error, ErrorKind, Read, Write};
 use std::process::Abort;
 use std::test::Fail;
@@ -8,6 +8,7 @@ use std::thread::Threads;
 use vme_commands::check::check;
 use vme_commands::{BLOCK, BUILT_IN};
 use vme_stream::{Bytes, Io};
+use vme_test_recordings::{BUS_DEFINITIONS, READ_LISTING};
 use vme_test_streams::{PieceReader, PieceWriter};
 use vme_trace::Source;
 
@@ -99,7 +100,7 @@ fn tells_torn_binding<R: AllocGlobal + Threads + Sync>(
     place: usize,
 ) -> bool {
     let mut binding = torn_at(text, place, 1000);
-    let mut dump = Bytes::new(HEAD.as_bytes());
+    let mut dump = Bytes::new(BUS_DEFINITIONS.as_bytes());
     let wanted = "vmecheck: cannot read binding\n";
     refuses(rt, command, &mut binding, &mut dump, wanted)
 }
@@ -131,7 +132,7 @@ fn tells_of_dump<R: AllocGlobal + Threads + Sync, D: Source>(
 
 #[test]
 fn torn_dumps(rt: HostRuntime) -> Result<(), Fail> {
-    let whole = dump_of(rt.alloc(), HEAD, BODY)?;
+    let whole = dump_of(rt.alloc(), BUS_DEFINITIONS, BODY)?;
     let text = whole.as_str();
     for command in COMMANDS.iter() {
         for place in 0..=text.len() {
@@ -193,7 +194,7 @@ fn a_reader_that_is_interrupted_for_good(rt: HostRuntime) {
 
 #[test]
 fn a_writer_that_takes_nothing(rt: HostRuntime) -> Result<(), Fail> {
-    let dump = dump_of(rt.alloc(), HEAD, BODY)?;
+    let dump = dump_of(rt.alloc(), BUS_DEFINITIONS, BODY)?;
     let mut err = PieceWriter::new(rt.alloc(), 1000, 1000);
     let status = check(
         &rt,
@@ -241,7 +242,7 @@ fn writes_front<R: AllocGlobal + Threads + Sync>(
 /// Commands, whether their dump is one without the strobe, and what each writes and its status.
 static WRITTEN: [(Command, bool, &str, u8); 4] = [
     (Command::Check, false, "conforming\n", 0),
-    (Command::List, false, LISTING, 0),
+    (Command::List, false, READ_LISTING, 0),
     (
         Command::Check,
         true,
@@ -274,9 +275,9 @@ fn expect_fronts<R: Abort + AllocGlobal + Threads + Sync>(
 
 #[test]
 fn full_writers(rt: HostRuntime) -> Result<(), Fail> {
-    let whole = dump_of(rt.alloc(), HEAD, BODY)?;
+    let whole = dump_of(rt.alloc(), BUS_DEFINITIONS, BODY)?;
     let body = BODY.replace(rt.alloc(), "#20 0q\n", "")?;
-    let broken = dump_of(rt.alloc(), HEAD, body.as_str())?;
+    let broken = dump_of(rt.alloc(), BUS_DEFINITIONS, body.as_str())?;
     for (command, is_broken, text, status) in WRITTEN.iter() {
         let dump = if *is_broken {
             broken.as_str()

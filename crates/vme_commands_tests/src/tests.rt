@@ -9,19 +9,14 @@ use vme_commands::list::list;
 use vme_commands::{BLOCK, BUILT_IN, allowance_of, allowances_of};
 use vme_faults::RefusalKind;
 use vme_stream::Bytes;
+use vme_test_recordings::{BUS_DEFINITIONS, READ_LISTING};
 use vme_test_streams::{LimitedSink, WantedAnswer, has_answered};
 use vme_text_commands::bind::bind;
 use vme_text_commands::explain::{InputNames, explain};
 use vme_text_commands::{tell_faults, tell_variables};
 use vme_trace::{Line, Rule, Sink, Source};
 
-/// The head of a dump with the six variables of the built-in binding.
-pub(crate) const HEAD: &str = "$timescale 1 ns $end\n$scope module bus $end\n\
-$var wire 1 p AS $end\n$var wire 1 q DS0 $end\n$var wire 1 r DS1 $end\n\
-$var wire 1 s DTACK $end\n$var wire 1 t BERR $end\n$var wire 1 u IACK $end\n\
-$upscope $end\n$enddefinitions $end\n";
-
-/// A read that conforms.
+/// The body of a dump of a read that conforms.
 pub(crate) const BODY: &str = "#0 1p 1q 1r 1s 1t 1u\n#10 0p\n#20 0q\n#30 0s\n#40 1p 1q\n#50 1s\n";
 
 /// The names of the input files.
@@ -35,11 +30,6 @@ const ONE_BIT: &str = "$var wire 1 p AS $end\n$enddefinitions $end\n";
 
 /// A dump with no path of the built-in binding.
 const UNBOUND: &str = "$enddefinitions $end\n";
-
-/// The listing of the dump with this head and body by the built-in binding.
-pub(crate) const LISTING: &str =
-    "vmecheck listing 3\nstart 1\ntenure 1 open end -\ncycle 2 S 3D FFFFFE end 5\n\
-transfer 3 of 2 read DTACK 4 close 5\nverdict conforming\n";
 
 /// How a command judges: how many steps a block has, how many workers read the dump, and the skew.
 #[derive(Clone, Copy)]
@@ -216,7 +206,7 @@ static VERDICTS: [(&str, &str, u8); 5] = [
 #[test]
 fn verdicts(rt: HostRuntime) -> Result<(), Fail> {
     for (body, text, status) in VERDICTS.iter() {
-        let dump = dump_of(rt.alloc(), HEAD, body)?;
+        let dump = dump_of(rt.alloc(), BUS_DEFINITIONS, body)?;
         expect(&rt, Command::Check, dump.as_str(), text, *status);
     }
     Ok(())
@@ -224,7 +214,7 @@ fn verdicts(rt: HostRuntime) -> Result<(), Fail> {
 
 /// Bodies of dumps, and the listing of each and its status.
 static LISTINGS: [(&str, &str, u8); 4] = [
-    (BODY, LISTING, 0),
+    (BODY, READ_LISTING, 0),
     ("", "vmecheck listing 3\nverdict never-idle\n", 2),
     (
         "#0 1p 1q 1r 1s 1t 1u\n#10 0p\n#20 0s\n#40 1p 1q\n#50 1s\n",
@@ -242,7 +232,7 @@ verdict broken H4 3 DTACK\n",
 #[test]
 fn listings(rt: HostRuntime) -> Result<(), Fail> {
     for (body, text, status) in LISTINGS.iter() {
-        let dump = dump_of(rt.alloc(), HEAD, body)?;
+        let dump = dump_of(rt.alloc(), BUS_DEFINITIONS, body)?;
         expect(&rt, Command::List, dump.as_str(), text, *status);
     }
     Ok(())
@@ -257,7 +247,7 @@ transfer 3 read pending\nreset 4\nstart 6\ntenure 6 open end -\nverdict conformi
 
 /// A dump of that read.
 fn reset_dump(alloc: Global) -> Result<String, AllocError> {
-    let head = HEAD.replace(alloc, "$upscope", "$var wire 1 v SYSRESET $end\n$upscope")?;
+    let head = BUS_DEFINITIONS.replace(alloc, "$upscope", "$var wire 1 v SYSRESET $end\n$upscope")?;
     dump_of(alloc, head.as_str(), RESET_BODY)
 }
 
@@ -397,10 +387,10 @@ static OTHER_BINDINGS: [(&str, &str, &str); 2] = [
 fn paths(rt: HostRuntime) -> Result<(), Fail> {
     let built_in = str::from_utf8(BUILT_IN).ok().ok_or("no text")?;
     for (old, new, text) in OTHER_HEADS.iter() {
-        let head = HEAD.replace(rt.alloc(), *old, *new)?;
+        let head = BUS_DEFINITIONS.replace(rt.alloc(), *old, *new)?;
         expect_refusal(&rt, built_in, head.as_str(), text);
     }
-    let dump = dump_of(rt.alloc(), HEAD, BODY)?;
+    let dump = dump_of(rt.alloc(), BUS_DEFINITIONS, BODY)?;
     for (old, new, text) in OTHER_BINDINGS.iter() {
         let binding = built_in.replace(rt.alloc(), *old, *new)?;
         expect_refusal(&rt, binding.as_str(), dump.as_str(), text);
@@ -429,7 +419,7 @@ pub(crate) const NEVER_IDLE: WantedAnswer<'static> = ("never idle\n", "", 2);
 /// 4,097 steps are one block too many if each is a block.
 #[test]
 fn blocks(rt: HostRuntime) -> Result<(), Fail> {
-    let dump = many_steps(rt.alloc(), HEAD, 4097)?;
+    let dump = many_steps(rt.alloc(), BUS_DEFINITIONS, 4097)?;
     let two_steps = Settings {
         block: 2,
         workers: 1,
@@ -558,7 +548,7 @@ fn begins_or_lacks_memory(out: &LimitedSink, err: &LimitedSink, status: u8) -> b
 #[test]
 fn want_of_memory_is_told(rt: HostRuntime) {
     let (Ok(dump), Ok(mut out), Ok(mut err)) = (
-        dump_of(rt.alloc(), HEAD, BODY),
+        dump_of(rt.alloc(), BUS_DEFINITIONS, BODY),
         LimitedSink::with_capacity(rt.alloc(), 5000),
         LimitedSink::with_capacity(rt.alloc(), 100),
     ) else {
@@ -578,7 +568,7 @@ fn want_of_memory_is_told(rt: HostRuntime) {
 
 #[test]
 fn an_explanation_begins_with_the_verdict(rt: HostRuntime) -> Result<(), Fail> {
-    let dump = dump_of(rt.alloc(), HEAD, BODY)?;
+    let dump = dump_of(rt.alloc(), BUS_DEFINITIONS, BODY)?;
     let text = "conforming\n\njudged: from instant 1 time 0 to instant 6 time 50\n";
     let files = (
         &["[*] written by vmecheck explain\n"][..],
@@ -615,7 +605,7 @@ fn binds(
 
 #[test]
 fn a_binding_is_written(rt: HostRuntime) -> Result<(), Fail> {
-    let dump = dump_of(rt.alloc(), HEAD, BODY)?;
+    let dump = dump_of(rt.alloc(), BUS_DEFINITIONS, BODY)?;
     let head =
         "# Found by the names in the scope bus: look each line over.\nslots 1\nAS = bus.AS\n";
     let message =
@@ -656,7 +646,7 @@ const IN_ANOTHER: WrittenBinding = (
 
 #[test]
 fn a_binding_is_written_for_a_scope(rt: HostRuntime) -> Result<(), Fail> {
-    let dump = dump_of(rt.alloc(), HEAD, BODY)?;
+    let dump = dump_of(rt.alloc(), BUS_DEFINITIONS, BODY)?;
     let (alloc, dump) = (rt.alloc(), dump.as_str());
     assert!(rt; binds(alloc, dump, Some(2), Some(b"bus"), IN_BUS));
     assert!(rt; binds(alloc, dump, Some(2), Some(b""), IN_NONE));
