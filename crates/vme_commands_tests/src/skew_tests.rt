@@ -11,54 +11,22 @@ use std::test::Fail;
 use std::thread::Threads;
 use vme_commands::{BLOCK, BUILT_IN, unsettled};
 use vme_stream::Bytes;
-use vme_test_recordings::BUS_DEFINITIONS;
+use vme_test_recordings::{
+    BROKEN_LISTING, BUS_DEFINITIONS, EARLY_ANSWER, LATE_LISTING, ONE_STEP_LISTING, SETTLED_LISTING,
+};
 use vme_test_streams::{LimitedSink, has_answered};
 
-/// The body of a dump of a read whose strobe is recorded 3 time units after its answer.
-const EARLY_ANSWER: &str = "#0 1p 1q 1r 1s 1t 1u\n#10 0p\n#20 0s\n#23 0q\n#40 1p 1q\n#50 1s\n";
-
-/// Its listing with a skew below 3.
-const BROKEN: &str = "vmecheck listing 3
-start 1
-tenure 1 open end -
-cycle 2 S 3D FFFFFE end -
-verdict broken H4 3 DTACK
-";
-
-/// Its listing with a skew of 3: both fall at one instant.
-const SETTLED: &str = "vmecheck listing 3
-start 1
-tenure 1 open end -
-cycle 2 S 3D FFFFFE end 4
-transfer 3 of 2 read DTACK 3 close 4
-verdict conforming
-";
-
-/// Its listing with a skew of 12: AS too falls at the first instant.
-const LATE: &str = "vmecheck listing 3
-start 3
-tenure 3 open end -
-verdict conforming
-";
-
-/// Its listing with a skew that is longer than the recording: all steps settle to one.
-const ONE: &str = "vmecheck listing 3
-start 1
-tenure 1 open end -
-verdict conforming
-";
-
-/// The line of its verdict with a skew below 3.
+/// The line of the verdict on `EARLY_ANSWER` with a skew below 3.
 const BROKEN_LINE: &str = "broken H4 at instant 3 time 20 line DTACK\n";
 
 /// Skews, the line of the verdict with each, the listing, and the status.
 static WANTED: [(u64, &str, &str, u8); 6] = [
-    (0, BROKEN_LINE, BROKEN, 1),
-    (2, BROKEN_LINE, BROKEN, 1),
-    (3, "conforming\n", SETTLED, 0),
-    (12, "conforming\n", LATE, 0),
-    (50, "conforming\n", ONE, 0),
-    (u64::MAX, "conforming\n", ONE, 0),
+    (0, BROKEN_LINE, BROKEN_LISTING, 1),
+    (2, BROKEN_LINE, BROKEN_LISTING, 1),
+    (3, "conforming\n", SETTLED_LISTING, 0),
+    (12, "conforming\n", LATE_LISTING, 0),
+    (50, "conforming\n", ONE_STEP_LISTING, 0),
+    (u64::MAX, "conforming\n", ONE_STEP_LISTING, 0),
 ];
 
 /// Expects that `check` and `list` answer this of a dump, by so many workers.
@@ -213,7 +181,7 @@ fn want_of_memory_by_a_skew_is_told(rt: HostRuntime) {
     let wanted = if status == 4 {
         ("", "vmecheck: out of memory\n", 4)
     } else {
-        (SETTLED, "", 0)
+        (SETTLED_LISTING, "", 0)
     };
     assert!(rt; has_answered(&out, &err, status, wanted));
 }

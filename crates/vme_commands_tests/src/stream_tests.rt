@@ -8,17 +8,9 @@ use std::thread::Threads;
 use vme_commands::check::check;
 use vme_commands::{BLOCK, BUILT_IN};
 use vme_stream::{Bytes, Io};
-use vme_test_recordings::{BUS_DEFINITIONS, READ_LISTING};
+use vme_test_recordings::{BROKEN_LISTING, BUS_DEFINITIONS, READ_LISTING};
 use vme_test_streams::{PieceReader, PieceWriter};
 use vme_trace::Source;
-
-/// The listing of the read without its strobe.
-const BROKEN: &str = "vmecheck listing 3
-start 1
-tenure 1 open end -
-cycle 2 S 3D FFFFFE end -
-verdict broken H4 3 DTACK
-";
 
 static COMMANDS: [Command; 2] = [Command::Check, Command::List];
 
@@ -249,7 +241,7 @@ static WRITTEN: [(Command, bool, &str, u8); 4] = [
         "broken H4 at instant 3 time 30 line DTACK\n",
         1,
     ),
-    (Command::List, true, BROKEN, 1),
+    (Command::List, true, BROKEN_LISTING, 1),
 ];
 
 /// Expects that a command writes `text` where there is room for it, and else as much of it as there is room for.

@@ -9,7 +9,7 @@ use vme_commands::list::list;
 use vme_commands::{BLOCK, BUILT_IN, allowance_of, allowances_of};
 use vme_faults::RefusalKind;
 use vme_stream::Bytes;
-use vme_test_recordings::{BUS_DEFINITIONS, READ_LISTING};
+use vme_test_recordings::{BROKEN_LISTING, BUS_DEFINITIONS, READ_LISTING};
 use vme_test_streams::{LimitedSink, WantedAnswer, has_answered};
 use vme_text_commands::bind::bind;
 use vme_text_commands::explain::{InputNames, explain};
@@ -218,8 +218,7 @@ static LISTINGS: [(&str, &str, u8); 4] = [
     ("", "vmecheck listing 3\nverdict never-idle\n", 2),
     (
         "#0 1p 1q 1r 1s 1t 1u\n#10 0p\n#20 0s\n#40 1p 1q\n#50 1s\n",
-        "vmecheck listing 3\nstart 1\ntenure 1 open end -\ncycle 2 S 3D FFFFFE end -\n\
-verdict broken H4 3 DTACK\n",
+        BROKEN_LISTING,
         1,
     ),
     (

@@ -3,7 +3,10 @@
 use std::alloc::Global;
 use vme_confirm_command::confirm::confirm_with;
 use vme_stream::{Bytes, Io};
-use vme_test_recordings::{BUS_BINDING, READ_DUMP, READ_LISTING};
+use vme_test_recordings::{
+    BROKEN_LISTING, BUS_BINDING, BUS_DEFINITIONS, EARLY_ANSWER, LATE_LISTING, ONE_STEP_LISTING,
+    READ_DUMP, READ_LISTING, SETTLED_LISTING,
+};
 use vme_test_streams::{LimitedSink, PieceReader, WantedAnswer, has_answered};
 use vme_trace::Source;
 
@@ -121,12 +124,7 @@ static OTHER_DUMPS: [(&str, &str, &str); 3] = [
         "",
         "vmecheck listing 3\nverdict never-idle\n",
     ),
-    (
-        "#20 0q\n",
-        "",
-        "vmecheck listing 3\nstart 1\ntenure 1 open end -\ncycle 2 S 3D FFFFFE end -\n\
-verdict broken H4 3 DTACK\n",
-    ),
+    ("#20 0q\n", "", BROKEN_LISTING),
     (
         "#10 0p",
         "#10 xp",
@@ -251,75 +249,37 @@ fn want_of_memory_is_told(rt: HostRuntime) {
     assert!(rt; has_answered(&out, &err, ended, wanted));
 }
 
-/// A dump in which the answer is recorded before the strobe.
-const LATE_STROBE: &str = "$timescale 1 ns $end
-$scope module bus $end
-$var wire 1 p AS $end
-$var wire 1 q DS0 $end
-$var wire 1 r DS1 $end
-$var wire 1 s DTACK $end
-$var wire 1 t BERR $end
-$var wire 1 u IACK $end
-$upscope $end
-$enddefinitions $end
-#0 1p 1q 1r 1s 1t 1u
-#10 0p
-#20 0s
-#23 0q
-#40 1p 1q
-#50 1s
-";
-
-/// Its listing with a skew below 3.
-const BROKEN: &str = "vmecheck listing 3
-start 1
-tenure 1 open end -
-cycle 2 S 3D FFFFFE end -
-verdict broken H4 3 DTACK
-";
-
-/// Its listing with a skew of 3: both fall at one instant.
-const SETTLED: &str = "vmecheck listing 3
-start 1
-tenure 1 open end -
-cycle 2 S 3D FFFFFE end 4
-transfer 3 of 2 read DTACK 3 close 4
-verdict conforming
-";
-
-/// Its listing with a skew of 12: AS too falls at the first instant.
-const LATE: &str = "vmecheck listing 3
-start 3
-tenure 3 open end -
-verdict conforming
-";
-
-/// Its listing with a skew that is longer than the recording: there is one instant.
-const ONE: &str = "vmecheck listing 3
-start 1
-tenure 1 open end -
-verdict conforming
-";
-
 /// Skews, a listing, what is written of it with each, and the status.
 static SKEWS: [(u64, &str, &str, u8); 8] = [
-    (0, BROKEN, "confirmed\n", 0),
-    (2, BROKEN, "confirmed\n", 0),
-    (3, SETTLED, "confirmed\n", 0),
-    (12, LATE, "confirmed\n", 0),
-    (50, ONE, "confirmed\n", 0),
-    (u64::MAX, ONE, "confirmed\n", 0),
-    (2, SETTLED, "not confirmed at row 3\n", 1),
-    (12, SETTLED, "not confirmed at row 1\n", 1),
+    (0, BROKEN_LISTING, "confirmed\n", 0),
+    (2, BROKEN_LISTING, "confirmed\n", 0),
+    (3, SETTLED_LISTING, "confirmed\n", 0),
+    (12, LATE_LISTING, "confirmed\n", 0),
+    (50, ONE_STEP_LISTING, "confirmed\n", 0),
+    (u64::MAX, ONE_STEP_LISTING, "confirmed\n", 0),
+    (2, SETTLED_LISTING, "not confirmed at row 3\n", 1),
+    (12, SETTLED_LISTING, "not confirmed at row 1\n", 1),
 ];
+
+/// Whether the comparison of a listing with that of the dump with the body `EARLY_ANSWER` gives this.
+fn confirms_skewed(
+    alloc: Global,
+    skew: u64,
+    listing: &str,
+    wanted: WantedAnswer<'_>,
+) -> Option<bool> {
+    let mut dump = String::from_str(alloc, BUS_DEFINITIONS).ok()?;
+    dump.push_str(EARLY_ANSWER).ok()?;
+    let listing = Bytes::new(listing.as_bytes());
+    Some(confirms(alloc, BUS_BINDING, dump.as_str(), listing, skew, wanted))
+}
 
 #[test]
 fn a_listing_is_confirmed_by_its_skew(rt: HostRuntime) {
     for (skew, listing, text, status) in SKEWS.iter() {
-        let listing = Bytes::new(listing.as_bytes());
         let wanted = (*text, "", *status);
         assert!(rt;
-            confirms(rt.alloc(), BUS_BINDING, LATE_STROBE, listing, *skew, wanted),
+            confirms_skewed(rt.alloc(), *skew, listing, wanted) == Some(true),
             "{skew} {text}"
         );
     }

@@ -10,7 +10,7 @@ use vme_stream::{
     verdict_on, verdict_status,
 };
 use vme_summary::NoVerdict;
-use vme_test_recordings::{BUS_BINDING, BUS_DEFINITIONS};
+use vme_test_recordings::{BROKEN_LISTING, BUS_BINDING, BUS_DEFINITIONS, READ_LISTING};
 use vme_test_streams::{LimitedSink, WantedAnswer, has_answered};
 use vme_trace::{Break, Line, Rule, Verdict};
 
@@ -40,17 +40,9 @@ static WORKED: [(&str, &str); 4] = [
 
 /// The listings of the same recordings, and their exit statuses.
 static LISTED: [(&str, u8); 4] = [
-    (
-        "vmecheck listing 3\nstart 1\ntenure 1 open end -\ncycle 2 S 3D FFFFFE end 5\n\
-transfer 3 of 2 read DTACK 4 close 5\nverdict conforming\n",
-        0,
-    ),
+    (READ_LISTING, 0),
     ("vmecheck listing 3\nverdict never-idle\n", 2),
-    (
-        "vmecheck listing 3\nstart 1\ntenure 1 open end -\ncycle 2 S 3D FFFFFE end -\n\
-verdict broken H4 3 DTACK\n",
-        1,
-    ),
+    (BROKEN_LISTING, 1),
     (
         "vmecheck listing 3\nstart 1\ntenure 1 open end -\nverdict unreadable U1 2 AS\n",
         2,
