@@ -10,7 +10,7 @@ use vme_commands::{BLOCK, BUILT_IN, allowance_of, allowances_of};
 use vme_faults::RefusalKind;
 use vme_stream::Bytes;
 use vme_test_recordings::{BROKEN_LISTING, BUS_DEFINITIONS, READ_LISTING};
-use vme_test_streams::{LimitedSink, WantedAnswer, has_answered};
+use vme_test_streams::{LimitedSink, WantedAnswer, has_answered, words_of};
 use vme_text_commands::bind::bind;
 use vme_text_commands::explain::{InputNames, explain};
 use vme_text_commands::{tell_faults, tell_variables};
@@ -445,15 +445,6 @@ fn blocks(rt: HostRuntime) -> Result<(), Fail> {
         )
     );
     Ok(())
-}
-
-/// The words, i.e. the arguments, in a line, the program's name first.
-fn words_of(alloc: Global, line: &str) -> Result<Vec<String>, AllocError> {
-    let mut words = Vec::new(alloc);
-    for word in line.split(' ') {
-        words.push(String::from_str(alloc, word)?)?;
-    }
-    Ok(words)
 }
 
 /// Whether a text allows a rule at a line, or at every line where none is named.

@@ -14,7 +14,7 @@ use vme_pod_check::{
 use vme_stream::{Bytes, Refusal, binding_in, recorded_in};
 use vme_summary::Judged;
 use vme_test_recordings::{BUS_BINDING, BUS_DEFINITIONS, READ_DUMP};
-use vme_test_streams::{LimitedSink, WantedAnswer, has_answered};
+use vme_test_streams::{LimitedSink, WantedAnswer, has_answered, words_of};
 use vme_trace::{Block, Capture, Verdict};
 
 /// The recording of the read.
@@ -392,18 +392,9 @@ fn what_is_not_judged_is_told(rt: HostRuntime) {
     assert!(rt; unjudged_is_told());
 }
 
-/// The arguments in a line, the program's name first.
-fn words_of(alloc: Global, line: &str) -> Option<Vec<String>> {
-    let mut words = Vec::new(alloc);
-    for word in line.split(' ') {
-        words.push(String::from_str(alloc, word).ok()?).ok()?;
-    }
-    Some(words)
-}
-
 /// The order, i.e. the parsed arguments, in a line.
 fn ordered(alloc: Global, line: &str) -> Option<PodsOrder> {
-    let words = words_of(alloc, line)?;
+    let words = words_of(alloc, line).ok()?;
     order_of(alloc, words.as_slice()).ok()?
 }
 

@@ -7,7 +7,7 @@ use vme_explain::{FileId, PathEntry};
 use vme_program::{Environment, WriteResult, run_words};
 use vme_stream::Bytes;
 use vme_test_recordings::{BUS_BINDING, READ_DUMP, READ_LISTING};
-use vme_test_streams::LimitedSink;
+use vme_test_streams::{LimitedSink, words_of};
 
 /// How the annotated dump begins.
 const ANNOTATED: &str = "$timescale 1 ns $end\n$scope module bus $end\n\
@@ -122,15 +122,6 @@ impl<'a> Environment for Shelf<'a> {
             WriteResult::Whole
         }
     }
-}
-
-/// The words, i.e. the arguments, in a line, the program's name first.
-fn words_of(alloc: Global, line: &str) -> Result<Vec<String>, AllocError> {
-    let mut words = Vec::new(alloc);
-    for word in line.split(' ') {
-        words.push(String::from_str(alloc, word)?)?;
-    }
-    Ok(words)
 }
 
 /// What came of the words of a line.
