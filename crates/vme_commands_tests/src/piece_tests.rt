@@ -9,7 +9,7 @@ use vme_commands::check::check_by;
 use vme_commands::list::list_by;
 use vme_commands::{BLOCK, BUILT_IN, Workers};
 use vme_stream::{Bytes, Io};
-use vme_test_recordings::{BUS_DEFINITIONS, READ_LISTING};
+use vme_test_recordings::{BUS_DEFINITIONS, READ_LISTING, bus_dump};
 use vme_test_streams::{LimitedSink, PieceReader, WantedAnswer, has_answered};
 
 /// How long the pieces are that a dump is cut into. The longest is longer than each dump here.
@@ -171,8 +171,7 @@ static BODIES: [(&str, &str); 9] = [
 #[test]
 fn dumps_in_pieces(rt: HostRuntime) -> Result<(), Fail> {
     for (body, fault) in BODIES.iter() {
-        let mut dump = String::from_str(rt.alloc(), BUS_DEFINITIONS)?;
-        dump.push_str(body)?;
+        let dump = bus_dump(rt.alloc(), body)?;
         expect_pieces(&rt, dump.as_str(), wanted_of(fault));
     }
     expect_pieces(&rt, BUS_DEFINITIONS, NEVER_IDLE);

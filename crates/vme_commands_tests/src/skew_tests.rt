@@ -3,8 +3,8 @@
 ghost use Rattle.std.specs.Prelude.{◌≤◌};
 
 use crate::tests::{
-    Command, NEVER_IDLE, SINGLE_STEPS, Settings, TOO_MANY_BLOCKS, answers, dump_of, explains,
-    many_steps, status_of,
+    Command, NEVER_IDLE, SINGLE_STEPS, Settings, TOO_MANY_BLOCKS, answers, explains, many_steps,
+    status_of,
 };
 use std::process::Abort;
 use std::test::Fail;
@@ -13,6 +13,7 @@ use vme_commands::{BLOCK, BUILT_IN, unsettled};
 use vme_stream::Bytes;
 use vme_test_recordings::{
     BROKEN_LISTING, BUS_DEFINITIONS, EARLY_ANSWER, LATE_LISTING, ONE_STEP_LISTING, SETTLED_LISTING,
+    bus_dump,
 };
 use vme_test_streams::{LimitedSink, has_answered};
 
@@ -66,7 +67,7 @@ fn expect_answers<R: Abort + AllocGlobal + Threads + Sync>(
 fn recordings_settle(rt: HostRuntime) -> Result<(), Fail> {
     // laws of a skew of 0, which do nothing at run time: each public function is called once
     unsettled();
-    let dump = dump_of(rt.alloc(), BUS_DEFINITIONS, EARLY_ANSWER)?;
+    let dump = bus_dump(rt.alloc(), EARLY_ANSWER)?;
     let dump = dump.as_str();
     for wanted in WANTED.iter() {
         expect_answers(&rt, dump, 1, wanted);
@@ -93,7 +94,7 @@ static EXPLAINED: [(u64, &str, u8); 4] = [
 
 #[test]
 fn an_explanation_is_of_what_settled(rt: HostRuntime) -> Result<(), Fail> {
-    let dump = dump_of(rt.alloc(), BUS_DEFINITIONS, EARLY_ANSWER)?;
+    let dump = bus_dump(rt.alloc(), EARLY_ANSWER)?;
     for (skew, text, status) in EXPLAINED.iter() {
         assert!(rt;
             explains(
@@ -158,7 +159,7 @@ fn blocks_are_counted_behind_settling(rt: HostRuntime) -> Result<(), Fail> {
 #[test]
 fn want_of_memory_by_a_skew_is_told(rt: HostRuntime) {
     let (Ok(dump), Ok(mut out), Ok(mut err)) = (
-        dump_of(rt.alloc(), BUS_DEFINITIONS, EARLY_ANSWER),
+        bus_dump(rt.alloc(), EARLY_ANSWER),
         LimitedSink::with_capacity(rt.alloc(), 200),
         LimitedSink::with_capacity(rt.alloc(), 200),
     ) else {

@@ -1,6 +1,6 @@
 //! Readers that fail or never end, and writers that fail, at each place.
 
-use crate::tests::{BODY, Command, USUAL, dump_of, status_of};
+use crate::tests::{BODY, Command, USUAL, status_of};
 use std::io::{self, Error, ErrorKind, Read, Write};
 use std::process::Abort;
 use std::test::Fail;
@@ -8,7 +8,7 @@ use std::thread::Threads;
 use vme_commands::check::check;
 use vme_commands::{BLOCK, BUILT_IN};
 use vme_stream::{Bytes, Io};
-use vme_test_recordings::{BROKEN_LISTING, BUS_DEFINITIONS, READ_LISTING};
+use vme_test_recordings::{BROKEN_LISTING, BUS_DEFINITIONS, READ_LISTING, bus_dump};
 use vme_test_streams::{PieceReader, PieceWriter};
 use vme_trace::Source;
 
@@ -124,7 +124,7 @@ fn tells_of_dump<R: AllocGlobal + Threads + Sync, D: Source>(
 
 #[test]
 fn torn_dumps(rt: HostRuntime) -> Result<(), Fail> {
-    let whole = dump_of(rt.alloc(), BUS_DEFINITIONS, BODY)?;
+    let whole = bus_dump(rt.alloc(), BODY)?;
     let text = whole.as_str();
     for command in COMMANDS.iter() {
         for place in 0..=text.len() {
@@ -186,7 +186,7 @@ fn a_reader_that_is_interrupted_for_good(rt: HostRuntime) {
 
 #[test]
 fn a_writer_that_takes_nothing(rt: HostRuntime) -> Result<(), Fail> {
-    let dump = dump_of(rt.alloc(), BUS_DEFINITIONS, BODY)?;
+    let dump = bus_dump(rt.alloc(), BODY)?;
     let mut err = PieceWriter::new(rt.alloc(), 1000, 1000);
     let status = check(
         &rt,
@@ -267,9 +267,9 @@ fn expect_fronts<R: Abort + AllocGlobal + Threads + Sync>(
 
 #[test]
 fn full_writers(rt: HostRuntime) -> Result<(), Fail> {
-    let whole = dump_of(rt.alloc(), BUS_DEFINITIONS, BODY)?;
+    let whole = bus_dump(rt.alloc(), BODY)?;
     let body = BODY.replace(rt.alloc(), "#20 0q\n", "")?;
-    let broken = dump_of(rt.alloc(), BUS_DEFINITIONS, body.as_str())?;
+    let broken = bus_dump(rt.alloc(), body.as_str())?;
     for (command, is_broken, text, status) in WRITTEN.iter() {
         let dump = if *is_broken {
             broken.as_str()

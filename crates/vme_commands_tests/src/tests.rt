@@ -9,7 +9,7 @@ use vme_commands::list::list;
 use vme_commands::{BLOCK, BUILT_IN, allowance_of, allowances_of};
 use vme_faults::RefusalKind;
 use vme_stream::Bytes;
-use vme_test_recordings::{BROKEN_LISTING, BUS_DEFINITIONS, READ_LISTING};
+use vme_test_recordings::{BROKEN_LISTING, BUS_DEFINITIONS, READ_LISTING, bus_dump};
 use vme_test_streams::{LimitedSink, WantedAnswer, has_answered, words_of};
 use vme_text_commands::bind::bind;
 use vme_text_commands::explain::{InputNames, explain};
@@ -206,7 +206,7 @@ static VERDICTS: [(&str, &str, u8); 5] = [
 #[test]
 fn verdicts(rt: HostRuntime) -> Result<(), Fail> {
     for (body, text, status) in VERDICTS.iter() {
-        let dump = dump_of(rt.alloc(), BUS_DEFINITIONS, body)?;
+        let dump = bus_dump(rt.alloc(), body)?;
         expect(&rt, Command::Check, dump.as_str(), text, *status);
     }
     Ok(())
@@ -231,7 +231,7 @@ static LISTINGS: [(&str, &str, u8); 4] = [
 #[test]
 fn listings(rt: HostRuntime) -> Result<(), Fail> {
     for (body, text, status) in LISTINGS.iter() {
-        let dump = dump_of(rt.alloc(), BUS_DEFINITIONS, body)?;
+        let dump = bus_dump(rt.alloc(), body)?;
         expect(&rt, Command::List, dump.as_str(), text, *status);
     }
     Ok(())
@@ -389,7 +389,7 @@ fn paths(rt: HostRuntime) -> Result<(), Fail> {
         let head = BUS_DEFINITIONS.replace(rt.alloc(), *old, *new)?;
         expect_refusal(&rt, built_in, head.as_str(), text);
     }
-    let dump = dump_of(rt.alloc(), BUS_DEFINITIONS, BODY)?;
+    let dump = bus_dump(rt.alloc(), BODY)?;
     for (old, new, text) in OTHER_BINDINGS.iter() {
         let binding = built_in.replace(rt.alloc(), *old, *new)?;
         expect_refusal(&rt, binding.as_str(), dump.as_str(), text);
@@ -538,7 +538,7 @@ fn begins_or_lacks_memory(out: &LimitedSink, err: &LimitedSink, status: u8) -> b
 #[test]
 fn want_of_memory_is_told(rt: HostRuntime) {
     let (Ok(dump), Ok(mut out), Ok(mut err)) = (
-        dump_of(rt.alloc(), BUS_DEFINITIONS, BODY),
+        bus_dump(rt.alloc(), BODY),
         LimitedSink::with_capacity(rt.alloc(), 5000),
         LimitedSink::with_capacity(rt.alloc(), 100),
     ) else {
@@ -558,7 +558,7 @@ fn want_of_memory_is_told(rt: HostRuntime) {
 
 #[test]
 fn an_explanation_begins_with_the_verdict(rt: HostRuntime) -> Result<(), Fail> {
-    let dump = dump_of(rt.alloc(), BUS_DEFINITIONS, BODY)?;
+    let dump = bus_dump(rt.alloc(), BODY)?;
     let text = "conforming\n\njudged: from instant 1 time 0 to instant 6 time 50\n";
     let files = (
         &["[*] written by vmecheck explain\n"][..],
@@ -595,7 +595,7 @@ fn binds(
 
 #[test]
 fn a_binding_is_written(rt: HostRuntime) -> Result<(), Fail> {
-    let dump = dump_of(rt.alloc(), BUS_DEFINITIONS, BODY)?;
+    let dump = bus_dump(rt.alloc(), BODY)?;
     let head =
         "# Found by the names in the scope bus: look each line over.\nslots 1\nAS = bus.AS\n";
     let message =
@@ -636,7 +636,7 @@ const IN_ANOTHER: WrittenBinding = (
 
 #[test]
 fn a_binding_is_written_for_a_scope(rt: HostRuntime) -> Result<(), Fail> {
-    let dump = dump_of(rt.alloc(), BUS_DEFINITIONS, BODY)?;
+    let dump = bus_dump(rt.alloc(), BODY)?;
     let (alloc, dump) = (rt.alloc(), dump.as_str());
     assert!(rt; binds(alloc, dump, Some(2), Some(b"bus"), IN_BUS));
     assert!(rt; binds(alloc, dump, Some(2), Some(b""), IN_NONE));

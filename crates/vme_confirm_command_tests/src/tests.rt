@@ -4,8 +4,8 @@ use std::alloc::Global;
 use vme_confirm_command::confirm::confirm_with;
 use vme_stream::{Bytes, Io};
 use vme_test_recordings::{
-    BROKEN_LISTING, BUS_BINDING, BUS_DEFINITIONS, EARLY_ANSWER, LATE_LISTING, ONE_STEP_LISTING,
-    READ_DUMP, READ_LISTING, SETTLED_LISTING,
+    BROKEN_LISTING, BUS_BINDING, EARLY_ANSWER, LATE_LISTING, ONE_STEP_LISTING, READ_DUMP,
+    READ_LISTING, SETTLED_LISTING, bus_dump,
 };
 use vme_test_streams::{LimitedSink, PieceReader, WantedAnswer, has_answered};
 use vme_trace::Source;
@@ -268,8 +268,7 @@ fn confirms_skewed(
     listing: &str,
     wanted: WantedAnswer<'_>,
 ) -> Option<bool> {
-    let mut dump = String::from_str(alloc, BUS_DEFINITIONS).ok()?;
-    dump.push_str(EARLY_ANSWER).ok()?;
+    let dump = bus_dump(alloc, EARLY_ANSWER).ok()?;
     let listing = Bytes::new(listing.as_bytes());
     Some(confirms(alloc, BUS_BINDING, dump.as_str(), listing, skew, wanted))
 }

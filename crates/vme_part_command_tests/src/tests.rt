@@ -1,11 +1,11 @@
 //! A read cycle in three files.
 
-use std::alloc::{AllocError, Global};
+use std::alloc::Global;
 use vme_part_command::{
     NamedPart, PartOptions, list_whole, tell_whole, write_joined, write_part_of,
 };
 use vme_stream::{Bytes, Io};
-use vme_test_recordings::{BUS_BINDING, BUS_DEFINITIONS, READ_LISTING};
+use vme_test_recordings::{BUS_BINDING, READ_LISTING, bus_dump};
 use vme_test_streams::{LimitedSink, PieceReader, WantedAnswer, has_answered};
 use vme_trace::Source;
 
@@ -32,13 +32,6 @@ const LATER_FIRST: &str = "#0\n#1 1p 1q 1r 1s 1t 1u\n#10 0p\n";
 
 /// The second file, with its levels before any time.
 const UNTIMED_SECOND: &str = "$dumpvars 0p 1q 1r 1s 1t 1u $end\n#20 0q\n#30 0s\n";
-
-/// The dump with the body `body`.
-fn dump_of(alloc: Global, body: &str) -> Result<String, AllocError> {
-    let mut dump = String::from_str(alloc, BUS_DEFINITIONS)?;
-    dump.push_str(body)?;
-    Ok(dump)
-}
 
 /// The part of the dump that comes from `source`, by `binding`, if one is written.
 fn part_from<D: Source>(
@@ -72,7 +65,7 @@ fn part_by(
     listing: bool,
     body: &str,
 ) -> Option<Vec<u8>> {
-    let dump = dump_of(alloc, body).ok()?;
+    let dump = bus_dump(alloc, body).ok()?;
     let mut source = Bytes::new(dump.as_bytes());
     part_from(alloc, binding, PartOptions { number, listing }, &mut source)
 }
@@ -200,7 +193,7 @@ fn the_opening_is_that_of_the_first_time(rt: HostRuntime) {
 
 /// The part with marks of the dump with the body `body`, which is read a few bytes at a time.
 fn part_by_reads(alloc: Global, number: u32, body: &str) -> Option<Vec<u8>> {
-    let dump = dump_of(alloc, body).ok()?;
+    let dump = bus_dump(alloc, body).ok()?;
     let options = PartOptions {
         number,
         listing: true,
@@ -503,7 +496,7 @@ fn a_full_output_is_told(rt: HostRuntime) {
 fn want_of_memory_is_told(rt: HostRuntime) {
     let alloc = rt.alloc();
     let (Ok(dump), Ok(mut out), Ok(mut err)) = (
-        dump_of(alloc, SECOND),
+        bus_dump(alloc, SECOND),
         LimitedSink::with_capacity(alloc, 100_000),
         LimitedSink::with_capacity(alloc, 100),
     ) else {

@@ -1,6 +1,6 @@
 ghost use Rattle.std.specs.Prelude.{◌≤◌};
 
-use std::alloc::{AllocError, Global};
+use std::alloc::Global;
 use vcd_read::{FaultKind, VcdFault};
 use vme_bind::{BindFault, BindFaultKind};
 use vme_listing::{ListFault, read_listing};
@@ -10,7 +10,7 @@ use vme_stream::{
     verdict_on, verdict_status,
 };
 use vme_summary::NoVerdict;
-use vme_test_recordings::{BROKEN_LISTING, BUS_BINDING, BUS_DEFINITIONS, READ_LISTING};
+use vme_test_recordings::{BROKEN_LISTING, BUS_BINDING, READ_LISTING, bus_dump};
 use vme_test_streams::{LimitedSink, WantedAnswer, has_answered};
 use vme_trace::{Break, Line, Rule, Verdict};
 
@@ -49,12 +49,6 @@ static LISTED: [(&str, u8); 4] = [
     ),
 ];
 
-fn dump_of(alloc: Global, body: &str) -> Result<String, AllocError> {
-    let mut dump = String::from_str(alloc, BUS_DEFINITIONS)?;
-    dump.push_str(body)?;
-    Ok(dump)
-}
-
 /// The verdict on the recording of a binding and a dump, in blocks of `block` steps.
 fn judged(alloc: Global, binding: &str, dump: &str, block: u32) -> Result<Verdict, Refusal>
     requires { (1 ≤ block) × (block ≤ 65536) }
@@ -84,7 +78,7 @@ fn has_verdict(alloc: Global, dump: &str, line: &str) -> bool {
 
 /// Whether the dump with this body has this verdict in blocks of each of these sizes.
 fn body_has_verdict(alloc: Global, body: &str, line: &str) -> bool {
-    match dump_of(alloc, body) {
+    match bus_dump(alloc, body) {
         Ok(dump) => has_verdict(alloc, dump.as_str(), line),
         Err(_) => false,
     }
@@ -122,7 +116,7 @@ fn has_verdict_each_way(alloc: Global, dump: &[u8], line: &str) -> bool {
 
 /// Whether the dump with this body has this verdict in both ways.
 fn body_has_verdict_each_way(alloc: Global, body: &str, line: &str) -> bool {
-    match dump_of(alloc, body) {
+    match bus_dump(alloc, body) {
         Ok(dump) => has_verdict_each_way(alloc, dump.as_bytes(), line),
         Err(_) => false,
     }

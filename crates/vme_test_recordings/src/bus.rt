@@ -1,5 +1,7 @@
 //! A binding of the lines of a bus, and a dump by it with its listing.
 
+use std::alloc::{AllocError, Global};
+
 /// A binding of six lines to variables, and of all others but D and SYSRESET to constant levels.
 pub const BUS_BINDING: &str = "\
 slots 1
@@ -40,6 +42,13 @@ $var wire 1 u IACK $end
 $upscope $end
 $enddefinitions $end
 ";
+
+/// The dump with these definitions and the body `body`.
+pub fn bus_dump(alloc: Global, body: &str) -> Result<String, AllocError> {
+    let mut dump = String::from_str(alloc, BUS_DEFINITIONS)?;
+    dump.push_str(body)?;
+    Ok(dump)
+}
 
 /// A dump with these definitions, of a read that conforms.
 pub const READ_DUMP: &str = "\

@@ -20,8 +20,8 @@
 //! # Parts
 //!
 //! - `bus`: [`BUS_BINDING`], a binding of six lines to variables; [`BUS_DEFINITIONS`], the
-//!   definitions of a dump with these; [`READ_DUMP`], such a dump, and [`READ_LISTING`], its
-//!   listing.
+//!   definitions of a dump with these, and [`bus_dump`], the dump with these and a body;
+//!   [`READ_DUMP`], such a dump, and [`READ_LISTING`], its listing.
 //! - `notation`: [`step_of`], the step that words denote; [`push_steps`], the steps of a text.
 //! - `recording`: [`Recording`], a recording as texts; [`opening_of`], the levels at an opening;
 //!   [`capture_of`], the recording itself.
@@ -48,7 +48,7 @@ mod notation;
 mod recording;
 mod skewed;
 
-pub use bus::{BUS_BINDING, BUS_DEFINITIONS, READ_DUMP, READ_LISTING};
+pub use bus::{BUS_BINDING, BUS_DEFINITIONS, READ_DUMP, READ_LISTING, bus_dump};
 pub use notation::{push_steps, step_of};
 pub use recording::{Recording, capture_of, opening_of};
 pub use skewed::{BROKEN_LISTING, EARLY_ANSWER, LATE_LISTING, ONE_STEP_LISTING, SETTLED_LISTING};

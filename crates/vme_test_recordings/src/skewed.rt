@@ -1,6 +1,6 @@
 //! A read whose answer is recorded before its strobe, and its listings by skews.
 
-/// The body of a dump, after `BUS_DEFINITIONS`, of a read whose strobe is recorded 3 time units after its answer.
+/// The body of a dump, for `bus_dump`, of a read whose strobe is recorded 3 time units after its answer.
 pub const EARLY_ANSWER: &str = "\
 #0 1p 1q 1r 1s 1t 1u
 #10 0p
