@@ -9,7 +9,10 @@ use vme_commands::list::list;
 use vme_commands::{BLOCK, BUILT_IN, allowance_of, allowances_of};
 use vme_faults::RefusalKind;
 use vme_stream::Bytes;
-use vme_test_recordings::{BROKEN_LISTING, BUS_DEFINITIONS, READ_LISTING, bus_dump};
+use vme_test_recordings::{
+    BROKEN_LISTING, BUS_DEFINITIONS, READ_LISTING, RESET_LISTING, bus_dump, reset_binding,
+    reset_dump,
+};
 use vme_test_streams::{LimitedSink, WantedAnswer, has_answered, words_of};
 use vme_text_commands::bind::bind;
 use vme_text_commands::explain::{InputNames, explain};
@@ -176,7 +179,7 @@ fn expect_refusal<R: Abort + AllocGlobal + Threads + Sync>(
 }
 
 /// The dump with this head and body.
-pub(crate) fn dump_of(alloc: Global, head: &str, body: &str) -> Result<String, AllocError> {
+fn dump_of(alloc: Global, head: &str, body: &str) -> Result<String, AllocError> {
     let mut dump = String::from_str(alloc, head)?;
     dump.push_str(body)?;
     Ok(dump)
@@ -235,25 +238,6 @@ fn listings(rt: HostRuntime) -> Result<(), Fail> {
         expect(&rt, Command::List, dump.as_str(), text, *status);
     }
     Ok(())
-}
-
-/// A read that a reset ends, after which the bus is idle again. One more line of the binding binds the system reset.
-const RESET_BODY: &str = "#0 1p 1q 1r 1s 1t 1u 1v\n#10 0p\n#20 0q\n#25 0v\n#30 1p 1q\n#40 1v\n";
-
-const RESET_LISTING: &str =
-    "vmecheck listing 3\nstart 1\ntenure 1 open end -\ncycle 2 S 3D FFFFFE end -\n\
-transfer 3 read pending\nreset 4\nstart 6\ntenure 6 open end -\nverdict conforming\n";
-
-/// A dump of that read.
-fn reset_dump(alloc: Global) -> Result<String, AllocError> {
-    let head = BUS_DEFINITIONS.replace(alloc, "$upscope", "$var wire 1 v SYSRESET $end\n$upscope")?;
-    dump_of(alloc, head.as_str(), RESET_BODY)
-}
-
-/// The built-in binding, and the system reset.
-fn reset_binding(alloc: Global) -> Result<String, Fail> {
-    let text = str::from_utf8(BUILT_IN).ok().ok_or("no text")?;
-    Ok(dump_of(alloc, text, "SYSRESET = bus.SYSRESET\n")?)
 }
 
 #[test]

@@ -5,7 +5,7 @@ use vme_confirm_command::confirm::confirm_with;
 use vme_stream::{Bytes, Io};
 use vme_test_recordings::{
     BROKEN_LISTING, BUS_BINDING, EARLY_ANSWER, LATE_LISTING, ONE_STEP_LISTING, READ_DUMP,
-    READ_LISTING, SETTLED_LISTING, bus_dump,
+    READ_LISTING, RESET_LISTING, SETTLED_LISTING, bus_dump, reset_binding, reset_dump,
 };
 use vme_test_streams::{LimitedSink, PieceReader, WantedAnswer, has_answered};
 use vme_trace::Source;
@@ -284,44 +284,13 @@ fn a_listing_is_confirmed_by_its_skew(rt: HostRuntime) {
     }
 }
 
-/// A dump of a read that a reset ends, after which the bus is idle again.
-const RESET: &str = "$timescale 1 ns $end
-$scope module bus $end
-$var wire 1 p AS $end
-$var wire 1 q DS0 $end
-$var wire 1 r DS1 $end
-$var wire 1 s DTACK $end
-$var wire 1 t BERR $end
-$var wire 1 u IACK $end
-$var wire 1 v SYSRESET $end
-$upscope $end
-$enddefinitions $end
-#0 1p 1q 1r 1s 1t 1u 1v
-#10 0p
-#20 0q
-#25 0v
-#30 1p 1q
-#40 1v
-";
-
-const RESET_LISTING: &str = "vmecheck listing 3
-start 1
-tenure 1 open end -
-cycle 2 S 3D FFFFFE end -
-transfer 3 read pending
-reset 4
-start 6
-tenure 6 open end -
-verdict conforming
-";
-
-/// Whether the listing of that dump is confirmed, by the binding with one more line, which binds the system reset.
+/// Whether the listing of a read that a reset ends is confirmed.
 fn confirms_a_reset(alloc: Global) -> Option<bool> {
-    let mut binding = String::from_str(alloc, BUS_BINDING).ok()?;
-    binding.push_str("SYSRESET = bus.SYSRESET\n").ok()?;
+    let binding = reset_binding(alloc).ok()?;
+    let dump = reset_dump(alloc).ok()?;
     let listing = Bytes::new(RESET_LISTING.as_bytes());
     let wanted = ("confirmed\n", "", 0);
-    Some(confirms(alloc, binding.as_str(), RESET, listing, 0, wanted))
+    Some(confirms(alloc, binding.as_str(), dump.as_str(), listing, 0, wanted))
 }
 
 #[test]

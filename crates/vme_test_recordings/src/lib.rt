@@ -25,6 +25,8 @@
 //! - `notation`: [`step_of`], the step that words denote; [`push_steps`], the steps of a text.
 //! - `recording`: [`Recording`], a recording as texts; [`opening_of`], the levels at an opening;
 //!   [`capture_of`], the recording itself.
+//! - `reset`: [`reset_binding`], [`reset_dump`], a dump of a read that a reset ends, and
+//!   [`RESET_LISTING`], its listing.
 //! - `skewed`: [`EARLY_ANSWER`], a dump's body in which a strobe is recorded after its answer, and
 //!   its listings by skews, from [`BROKEN_LISTING`] with none to [`ONE_STEP_LISTING`].
 //!
@@ -46,9 +48,11 @@
 mod bus;
 mod notation;
 mod recording;
+mod reset;
 mod skewed;
 
 pub use bus::{BUS_BINDING, BUS_DEFINITIONS, READ_DUMP, READ_LISTING, bus_dump};
 pub use notation::{push_steps, step_of};
 pub use recording::{Recording, capture_of, opening_of};
+pub use reset::{RESET_LISTING, reset_binding, reset_dump};
 pub use skewed::{BROKEN_LISTING, EARLY_ANSWER, LATE_LISTING, ONE_STEP_LISTING, SETTLED_LISTING};
