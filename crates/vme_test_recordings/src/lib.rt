@@ -29,10 +29,13 @@
 //!   [`RESET_LISTING`], its listing.
 //! - `skewed`: [`EARLY_ANSWER`], a dump's body in which a strobe is recorded after its answer, and
 //!   its listings by skews, from [`BROKEN_LISTING`] with none to [`ONE_STEP_LISTING`].
+//! - `starts`: how recordings of several crates of tests begin, as [`GRANTED`]; [`READ`], a read, and
+//!   [`GRANTED_READ_LISTING`], the listing of both; and [`DUMPED_READ`], a read after [`DUMPED`].
+//! - `written`: [`write_steps`], steps with their times, a line for each.
 //!
 //! # What is proved
 //!
-//! That each call returns, on any texts.
+//! That each call returns, on any texts and steps.
 //!
 //! # What isn't proved
 //!
@@ -41,8 +44,8 @@
 //!
 //! # Limits
 //!
-//! A call answers `None` for a text that isn't in the notation, and where memory runs out. Only
-//! [`capture_of`] looks at whether steps are well formed.
+//! A call that reads a text answers `None` where that isn't in the notation, and where memory runs
+//! out. Only [`capture_of`] looks at whether steps are well formed.
 #![tactic(auto)]
 
 mod bus;
@@ -50,9 +53,15 @@ mod notation;
 mod recording;
 mod reset;
 mod skewed;
+mod starts;
+mod written;
 
 pub use bus::{BUS_BINDING, BUS_DEFINITIONS, READ_DUMP, READ_LISTING, bus_dump};
 pub use notation::{push_steps, step_of};
 pub use recording::{Recording, capture_of, opening_of};
 pub use reset::{RESET_LISTING, reset_binding, reset_dump};
 pub use skewed::{BROKEN_LISTING, EARLY_ANSWER, LATE_LISTING, ONE_STEP_LISTING, SETTLED_LISTING};
+pub use starts::{
+    DUMPED, DUMPED_READ, GRANTED, GRANTED_FROM_IDLE, GRANTED_READ_LISTING, PASSED_ON, READ,
+};
+pub use written::write_steps;
