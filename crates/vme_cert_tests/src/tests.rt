@@ -3,36 +3,10 @@ use std::process::Abort;
 use std::test::Fail;
 use vme_cert::{Answer, confirm, confirm_text};
 use vme_listing::{Direction, ListFault, ListedVerdict, Listing, Row, Version, read_listing};
-use vme_test_recordings::{Recording, capture_of};
+use vme_test_recordings::{
+    DUMPED, DUMPED_READ, GRANTED, GRANTED_FROM_IDLE, PASSED_ON, READ, Recording, capture_of,
+};
 use vme_trace::Capture;
-
-/// Six lines are unknown, the modifier is 3D, the bus is busy, and all other lines are high.
-const DUMPED: Recording = Recording {
-    slots: 1,
-    opening: "high AM1=0 BBSY=0 AS=x DS0=x DS1=x DTACK=x BERR=x IACK=x",
-    steps: "",
-};
-
-/// The bus becomes idle, and a requester in slot 2 takes it by level 3.
-const GRANTED: Recording = Recording {
-    slots: 3,
-    opening: "",
-    steps: "high_but_A24_to_A31;BR3=0;BG3.0=0;BG3.1=0;BBSY=0 BR3=1;BG3.0=1;BG3.1=1",
-};
-
-/// The bus is idle from the opening on, and a requester in slot 2 takes it by level 3.
-const GRANTED_FROM_IDLE: Recording = Recording {
-    slots: 3,
-    opening: "high_but_A24_to_A31",
-    steps: "BR3=0;BG3.0=0;BG3.1=0;BBSY=0 BR3=1;BG3.0=1;BG3.1=1",
-};
-
-/// The bus becomes idle, and a grant is passed on to slot 3.
-const PASSED_ON: Recording = Recording {
-    slots: 3,
-    opening: "",
-    steps: "high_but_A24_to_A31;BR3=0;BG3.0=0;BG3.1=0;BG3.2=0",
-};
 
 /// The bus becomes idle.
 const IDLE: Recording = Recording {
@@ -41,14 +15,11 @@ const IDLE: Recording = Recording {
     steps: "high_but_A24_to_A31",
 };
 
-/// A read by modifier 39.
-const READ: &str = "AM1=0 AM2=0 A05=0;AS=0;DS0=0 DS1=0;DTACK=0;AS=1 DS0=1 DS1=1;DTACK=1;BBSY=1";
-
 /// Recordings, and the rows of their listings.
-const LISTINGS: [(Recording, &'static str, &'static str); 20] = [
+static LISTINGS: [(Recording, &'static str, &'static str); 20] = [
     (
         DUMPED,
-        "AS=1 DS0=1 DS1=1 DTACK=1 BERR=1 IACK=1;AS=0;DS0=0;DTACK=0;AS=1 DS0=1;DTACK=1",
+        DUMPED_READ,
         "start 1\ntenure 1 open end -\ncycle 2 S 3D FFFFFE end 5\ntransfer 3 of 2 read DTACK 4 close 5\n\
             verdict conforming\n",
     ),
@@ -160,7 +131,7 @@ const LISTINGS: [(Recording, &'static str, &'static str); 20] = [
 ];
 
 /// What follows `GRANTED`, with the data lines of a transfer, and the rows of the listing.
-const DATA: [(&'static str, &'static str); 7] = [
+static DATA: [(&'static str, &'static str); 7] = [
     // a line that DS0* moves is unknown as both strobes fall, or as the later one does
     (
         "AM1=0 AM2=0 WRITE=0 D03=x;AS=0;DS0=0 DS1=0;D03=1;DTACK=0",
@@ -208,7 +179,7 @@ const HELD_IN_RESET: Recording = Recording {
 };
 
 /// Recordings with resets, and the rows of their listings.
-const RESETS: [(Recording, &'static str, &'static str); 10] = [
+static RESETS: [(Recording, &'static str, &'static str); 10] = [
     // a reset in a read, after which the bus is free, or busy
     (
         GRANTED,
@@ -468,15 +439,15 @@ fn assert_listed(
 
 #[test]
 fn listings(rt: HostRuntime) -> Result<(), Fail> {
-    for (start, steps, text) in LISTINGS {
-        assert_listed(&rt, rt.alloc(), start, steps, text)?;
+    for (start, steps, text) in LISTINGS.iter() {
+        assert_listed(&rt, rt.alloc(), *start, steps, text)?;
     }
     Ok(())
 }
 
 #[test]
 fn data_lines(rt: HostRuntime) -> Result<(), Fail> {
-    for (steps, text) in DATA {
+    for (steps, text) in DATA.iter() {
         assert_listed(&rt, rt.alloc(), GRANTED, steps, text)?;
     }
     Ok(())
@@ -484,18 +455,23 @@ fn data_lines(rt: HostRuntime) -> Result<(), Fail> {
 
 #[test]
 fn resets(rt: HostRuntime) -> Result<(), Fail> {
-    for (start, steps, text) in RESETS {
-        assert_listed(&rt, rt.alloc(), start, steps, text)?;
+    for (start, steps, text) in RESETS.iter() {
+        assert_listed(&rt, rt.alloc(), *start, steps, text)?;
     }
     Ok(())
+}
+
+/// The recording of the first of `RESETS`.
+fn first_reset(alloc: Global) -> Option<Capture> {
+    let (start, steps, _) = &RESETS[0];
+    capture_of(alloc, *start, steps)
 }
 
 /// A listing of an older version, whose rows are those up to a listed reset, isn't that of the recording.
 #[test]
 fn older_listings_lack_resets(rt: HostRuntime) -> Result<(), Fail> {
     let alloc = rt.alloc();
-    let (start, steps, _) = RESETS[0];
-    let capture = capture_of(alloc, start, steps).ok_or("no recording")?;
+    let capture = first_reset(alloc).ok_or("no recording")?;
     let text =
         "vmecheck listing 2\nstart 1\ntenure 5 level 3 slot 2 end -\ncycle 9 S 39 FFFFDE end -\n\
          transfer 10 read pending\nverdict conforming\n";
@@ -510,37 +486,39 @@ fn older_listings_lack_resets(rt: HostRuntime) -> Result<(), Fail> {
     Ok(())
 }
 
+/// Texts that are no listings, and the first fault of each.
+static NO_LISTINGS: [(&'static str, ListFault); 4] = [
+    (
+        "vmecheck listing 4\nstart 1\nverdict conforming\n",
+        ListFault::BadHeader,
+    ),
+    // only version 3 has resets
+    (
+        "vmecheck listing 2\nstart 1\ntenure 5 level 3 slot 2 end -\ncycle 9 S 39 FFFFDE end -\n\
+         transfer 10 read pending\nreset 11\nstart 13\nverdict conforming\n",
+        ListFault::BadRow { row: 5 },
+    ),
+    // something follows the verdict
+    (
+        "vmecheck listing 3\nstart 1\ntenure 5 level 3 slot 2 end -\ncycle 9 S 39 FFFFDE end -\n\
+         transfer 10 read pending\nreset 11\nstart 13\nverdict conforming\nstart 14\n",
+        ListFault::BadRow { row: 7 },
+    ),
+    (
+        "vmecheck listing 3\nstart 2\ntenure 5 level 3 slot 2 end -\ntenure 4 level 3 slot 2 end -\n\
+         verdict conforming\n",
+        ListFault::Unsorted { row: 3 },
+    ),
+];
+
 /// The first fault of a text that is no listing is named, whether the rows before it are the recording's or not.
 #[test]
 fn texts_that_are_no_listings(rt: HostRuntime) -> Result<(), Fail> {
-    let (start, steps, _) = RESETS[0];
-    let capture = capture_of(rt.alloc(), start, steps).ok_or("no recording")?;
-    for (text, fault) in [
-        (
-            "vmecheck listing 4\nstart 1\nverdict conforming\n",
-            ListFault::BadHeader,
-        ),
-        // only version 3 has resets
-        (
-            "vmecheck listing 2\nstart 1\ntenure 5 level 3 slot 2 end -\ncycle 9 S 39 FFFFDE end -\n\
-             transfer 10 read pending\nreset 11\nstart 13\nverdict conforming\n",
-            ListFault::BadRow { row: 5 },
-        ),
-        // something follows the verdict
-        (
-            "vmecheck listing 3\nstart 1\ntenure 5 level 3 slot 2 end -\ncycle 9 S 39 FFFFDE end -\n\
-             transfer 10 read pending\nreset 11\nstart 13\nverdict conforming\nstart 14\n",
-            ListFault::BadRow { row: 7 },
-        ),
-        (
-            "vmecheck listing 3\nstart 2\ntenure 5 level 3 slot 2 end -\ntenure 4 level 3 slot 2 end -\n\
-             verdict conforming\n",
-            ListFault::Unsorted { row: 3 },
-        ),
-    ] {
+    let capture = first_reset(rt.alloc()).ok_or("no recording")?;
+    for (text, fault) in NO_LISTINGS.iter() {
         assert_eq!(rt;
             text_answer(rt.alloc(), &capture, text.as_bytes()),
-            Err(fault),
+            Err(*fault),
             "{text}"
         );
     }
@@ -551,42 +529,45 @@ fn texts_that_are_no_listings(rt: HostRuntime) -> Result<(), Fail> {
 const READ_AND_WRITE: &'static str =
     "AM1=0 A05=0;AS=0;DS0=0 DS1=0;DTACK=0;DS0=1 DS1=1;DTACK=1;WRITE=0;DS0=0 DS1=0;DTACK=0;AS=1 DS0=1 DS1=1;DTACK=1";
 
+/// Listings of each version of that recording, and the answer to each.
+static BY_VERSION: [(&'static str, Answer); 4] = [
+    (
+        "vmecheck listing 2\nstart 1\ntenure 5 level 3 slot 2 end -\ncycle 9 S 3D FFFFDE end 17\n\
+            transfer 10 of 9 read DTACK 11 close 12\ntransfer 15 of 9 write DTACK 16 close 17 data ----FFFF\n\
+            verdict conforming\n",
+        Answer::Yes,
+    ),
+    (
+        "vmecheck listing 2\nstart 1\ntenure 5 level 3 slot 2 end -\ncycle 9 S 3D FFFFDE end 17\n\
+            transfer 10 of 9 read DTACK 11 close 12\ntransfer 15 of 9 write DTACK 16 close 17 data ----FFFE\n\
+            verdict conforming\n",
+        Answer::No { row: 5 },
+    ),
+    (
+        "vmecheck listing 3\nstart 1\ntenure 5 level 3 slot 2 end -\ncycle 9 S 3D FFFFDE end 17\n\
+         transfer 10 of 9 read DTACK 11 close 12\ntransfer 15 of 9 write DTACK 16 close 17 data ----FFFF\n\
+         verdict conforming\n",
+        Answer::Yes,
+    ),
+    (
+        "vmecheck listing 1\nstart 1\ntenure 5 level 3 slot 2 end -\ncycle 9 S 3D FFFFDE end 17\n\
+            transfer 10 of 9 read DTACK 11 close 12\ntransfer 15 of 9 write DTACK 16 close 17\n\
+            verdict conforming\n",
+        Answer::Yes,
+    ),
+];
+
 /// The data of a write count in a listing of version 2 or 3, and one of version 1 has none.
 #[test]
 fn data_count_by_the_version(rt: HostRuntime) -> Result<(), Fail> {
     let alloc = rt.alloc();
     let capture = capture_of(alloc, GRANTED, READ_AND_WRITE).ok_or("no recording")?;
-    for (text, wanted) in [
-        (
-            "vmecheck listing 2\nstart 1\ntenure 5 level 3 slot 2 end -\ncycle 9 S 3D FFFFDE end 17\n\
-                transfer 10 of 9 read DTACK 11 close 12\ntransfer 15 of 9 write DTACK 16 close 17 data ----FFFF\n\
-                verdict conforming\n",
-            Answer::Yes,
-        ),
-        (
-            "vmecheck listing 2\nstart 1\ntenure 5 level 3 slot 2 end -\ncycle 9 S 3D FFFFDE end 17\n\
-                transfer 10 of 9 read DTACK 11 close 12\ntransfer 15 of 9 write DTACK 16 close 17 data ----FFFE\n\
-                verdict conforming\n",
-            Answer::No { row: 5 },
-        ),
-        (
-            "vmecheck listing 3\nstart 1\ntenure 5 level 3 slot 2 end -\ncycle 9 S 3D FFFFDE end 17\n\
-             transfer 10 of 9 read DTACK 11 close 12\ntransfer 15 of 9 write DTACK 16 close 17 data ----FFFF\n\
-             verdict conforming\n",
-            Answer::Yes,
-        ),
-        (
-            "vmecheck listing 1\nstart 1\ntenure 5 level 3 slot 2 end -\ncycle 9 S 3D FFFFDE end 17\n\
-                transfer 10 of 9 read DTACK 11 close 12\ntransfer 15 of 9 write DTACK 16 close 17\n\
-                verdict conforming\n",
-            Answer::Yes,
-        ),
-    ] {
+    for (text, wanted) in BY_VERSION.iter() {
         let listing = read_listing(alloc, text.as_bytes())
             .ok()
             .ok_or("no listing")?;
-        assert_eq!(rt; confirm(alloc, &capture, &listing)?, wanted);
-        assert_eq!(rt; text_answer(alloc, &capture, text.as_bytes()), Ok(wanted));
+        assert_eq!(rt; confirm(alloc, &capture, &listing)?, *wanted);
+        assert_eq!(rt; text_answer(alloc, &capture, text.as_bytes()), Ok(*wanted));
     }
     Ok(())
 }
