@@ -1,5 +1,5 @@
 //! Judged blocks in a list, in a table and through a thread, and spans that are consumed.
-use crate::tests::{GRANTED, READ, judged};
+use crate::tests::judged;
 use atomic_table::{Table, TableRule};
 use std::alloc::Global;
 use std::process::Abort;
@@ -8,7 +8,7 @@ use std::thread;
 use std::thread::Threads;
 use vme_summary::judged::Judged;
 use vme_summary::{Span, append};
-use vme_test_recordings::capture_of;
+use vme_test_recordings::{GRANTED, READ, capture_of};
 use vme_trace::Verdict;
 
 /// The rule of a table that asks nothing of its blocks.

@@ -7,7 +7,9 @@ use std::process::Abort;
 use vme_listing::Listing;
 use vme_summary::judged::{Judged, judge_block};
 use vme_summary::{JoinFault, Judge, Span, join, verdict_by_blocks};
-use vme_test_recordings::{Recording, capture_of};
+use vme_test_recordings::{
+    DUMPED, DUMPED_READ, GRANTED, GRANTED_FROM_IDLE, PASSED_ON, READ, Recording, capture_of,
+};
 use vme_trace::{Block, Break, Capture, Line, Lines, Rule, StepVisitor, Verdict};
 
 /// The verdict on a recording, with the line by its name.
@@ -24,44 +26,12 @@ pub(crate) type Worked = (Recording, &'static str, Expected, &'static str);
 
 use Expected::{Broken, Conforming, NeverIdle, Unreadable};
 
-/// Six lines are unknown, and all others as in an idle bus that is busy.
-const DUMPED: Recording = Recording {
-    slots: 1,
-    opening: "high AM1=0 BBSY=0 AS=x DS0=x DS1=x DTACK=x BERR=x IACK=x",
-    steps: "",
-};
-
-/// The bus becomes idle, and a requester in slot 2 takes it by level 3.
-pub(crate) const GRANTED: Recording = Recording {
-    slots: 3,
-    opening: "",
-    steps: "high_but_A24_to_A31;BR3=0;BG3.0=0;BG3.1=0;BBSY=0 BR3=1;BG3.0=1;BG3.1=1",
-};
-
-/// A requester in slot 2 takes the bus by level 3. The bus is idle from the opening on.
-const GRANTED_FROM_IDLE: Recording = Recording {
-    slots: 3,
-    opening: "high_but_A24_to_A31",
-    steps: "BR3=0;BG3.0=0;BG3.1=0;BBSY=0 BR3=1;BG3.0=1;BG3.1=1",
-};
-
-/// The bus becomes idle, and a grant is passed on to slot 3.
-const PASSED_ON: Recording = Recording {
-    slots: 3,
-    opening: "",
-    steps: "high_but_A24_to_A31;BR3=0;BG3.0=0;BG3.1=0;BG3.2=0",
-};
-
 /// All lines are unknown.
 const UNKNOWN: Recording = Recording {
     slots: 3,
     opening: "",
     steps: "",
 };
-
-/// A read by modifier 39.
-pub(crate) const READ: &str =
-    "AM1=0 AM2=0 A05=0;AS=0;DS0=0 DS1=0;DTACK=0;AS=1 DS0=1 DS1=1;DTACK=1;BBSY=1";
 
 /// The listing of `READ` after `GRANTED`.
 const READ_ROWS: &str =
@@ -72,7 +42,7 @@ const READ_ROWS: &str =
 pub(crate) static DUMPS: [Worked; 4] = [
     (
         DUMPED,
-        "AS=1 DS0=1 DS1=1 DTACK=1 BERR=1 IACK=1;AS=0;DS0=0;DTACK=0;AS=1 DS0=1;DTACK=1",
+        DUMPED_READ,
         Conforming,
         "start 1\ntenure 1 open end -\ncycle 2 S 3D FFFFFE end 5\ntransfer 3 of 2 read DTACK 4 close 5\n\
             verdict conforming\n",
@@ -158,14 +128,18 @@ pub(crate) static CYCLES: [Worked; 9] = [
     ),
 ];
 
+/// The listing of a read by modifier 29 after `GRANTED`.
+const SHORT_READ_ROWS: &str =
+    "start 1\ntenure 5 level 3 slot 2 end 14\ncycle 9 S 29 FFDE end 12\ntransfer 10 of 9 read DTACK 11 close 12\n\
+        verdict conforming\n";
+
 /// Lines that a cycle needs.
 pub(crate) static HELD: [Worked; 6] = [
     (
         GRANTED,
         "AM1=0 AM2=0 AM4=0 A05=0;AS=0;DS0=0 DS1=0;DTACK=0;AS=1 DS0=1 DS1=1;DTACK=1;BBSY=1",
         Conforming,
-        "start 1\ntenure 5 level 3 slot 2 end 14\ncycle 9 S 29 FFDE end 12\ntransfer 10 of 9 read DTACK 11 close 12\n\
-            verdict conforming\n",
+        SHORT_READ_ROWS,
     ),
     (
         GRANTED,
@@ -177,15 +151,13 @@ pub(crate) static HELD: [Worked; 6] = [
         GRANTED,
         "AM1=0 AM2=0 AM4=0 A05=0;AS=0;DS0=0 DS1=0;DTACK=0 A05=1;AS=1 DS0=1 DS1=1;DTACK=1;BBSY=1",
         Conforming,
-        "start 1\ntenure 5 level 3 slot 2 end 14\ncycle 9 S 29 FFDE end 12\ntransfer 10 of 9 read DTACK 11 close 12\n\
-            verdict conforming\n",
+        SHORT_READ_ROWS,
     ),
     (
         GRANTED,
         "AM1=0 AM2=0 AM4=0 A05=0;AS=0;DS0=0 DS1=0 A16=0;DTACK=0;AS=1 DS0=1 DS1=1;DTACK=1;BBSY=1",
         Conforming,
-        "start 1\ntenure 5 level 3 slot 2 end 14\ncycle 9 S 29 FFDE end 12\ntransfer 10 of 9 read DTACK 11 close 12\n\
-            verdict conforming\n",
+        SHORT_READ_ROWS,
     ),
     (
         GRANTED,
@@ -275,14 +247,18 @@ const READ_AGAIN: Worked = (
         transfer 23 of 22 read DTACK 24 close 25\nverdict conforming\n",
 );
 
+/// The listing of a read after `GRANTED` that a reset leaves without an answer.
+const RESET_ROWS: &str =
+    "start 1\ntenure 5 level 3 slot 2 end -\ncycle 9 S 39 FFFFDE end -\ntransfer 10 read pending\nreset 11\n\
+        start 13\nverdict conforming\n";
+
 /// Resets of the bus.
 pub(crate) static RESETS: [Worked; 15] = [
     (
         GRANTED,
         "AM1=0 AM2=0 A05=0;AS=0;DS0=0 DS1=0;SYSRESET=0;AS=1 DS0=1 DS1=1 BBSY=1;SYSRESET=1",
         Conforming,
-        "start 1\ntenure 5 level 3 slot 2 end -\ncycle 9 S 39 FFFFDE end -\ntransfer 10 read pending\nreset 11\n\
-            start 13\nverdict conforming\n",
+        RESET_ROWS,
     ),
     READ_AGAIN,
     (
@@ -312,8 +288,7 @@ pub(crate) static RESETS: [Worked; 15] = [
         GRANTED,
         "AM1=0 AM2=0 A05=0;AS=0;DS0=0 DS1=0;AS=x SYSRESET=0;AS=1 DS0=1 DS1=1 BBSY=1;SYSRESET=1",
         Conforming,
-        "start 1\ntenure 5 level 3 slot 2 end -\ncycle 9 S 39 FFFFDE end -\ntransfer 10 read pending\nreset 11\n\
-            start 13\nverdict conforming\n",
+        RESET_ROWS,
     ),
     (
         GRANTED,
