@@ -6,34 +6,17 @@ use std::process::Abort;
 use vme_book::{Book, BookFault, CloseFault, InsertFault, Whole};
 use vme_listing::{Listing, read_listing};
 use vme_summary::{Judged, Span, judge_block};
-use vme_test_recordings::{Recording, capture_of, push_steps, step_of};
+use vme_test_recordings::{GRANTED, READ, GRANTED_READ_LISTING, capture_of, push_steps, step_of};
 use vme_trace::{Block, Break, Capture, Line, Lines, Rule, Steps, Verdict};
-
-/// A read by modifier 39 of a requester in slot 2.
-const READ: Recording = Recording {
-    slots: 3,
-    opening: "",
-    steps: "high_but_A24_to_A31;BR3=0;BG3.0=0;BG3.1=0;BBSY=0 BR3=1;BG3.0=1;BG3.1=1;AM1=0 AM2=0 A05=0;AS=0;\
-        DS0=0 DS1=0;DTACK=0;AS=1 DS0=1 DS1=1;DTACK=1;BBSY=1",
-};
-
-/// The listing of the read.
-const READ_ROWS: &str = "vmecheck listing 3
-start 1
-tenure 5 level 3 slot 2 end 14
-cycle 9 S 39 FFFFDE end 12
-transfer 10 of 9 read DTACK 11 close 12
-verdict conforming
-";
 
 /// The read in single steps.
 fn single_steps(alloc: Global) -> Option<Vec<Block>> {
-    capture_of(alloc, READ, "")?.cut(alloc, 1).ok()
+    capture_of(alloc, GRANTED, READ)?.cut(alloc, 1).ok()
 }
 
 /// The read in blocks of five steps.
 fn read_by_fives(alloc: Global) -> Option<Vec<Block>> {
-    capture_of(alloc, READ, "")?.cut(alloc, 5).ok()
+    capture_of(alloc, GRANTED, READ)?.cut(alloc, 5).ok()
 }
 
 /// Block 0, 1 or 2 of the read in blocks of five steps.
@@ -202,9 +185,9 @@ fn listing_of(alloc: Global, span: &Span) -> Option<Listing>
 
 /// The listing of the read, from its text. Where memory is short once, it is read again.
 fn listing_of_read(alloc: Global) -> Option<Listing> {
-    match read_listing(alloc, READ_ROWS.as_bytes()) {
+    match read_listing(alloc, GRANTED_READ_LISTING.as_bytes()) {
         Ok(listing) => Some(listing),
-        Err(_) => read_listing(alloc, READ_ROWS.as_bytes()).ok(),
+        Err(_) => read_listing(alloc, GRANTED_READ_LISTING.as_bytes()).ok(),
     }
 }
 
@@ -297,8 +280,8 @@ fn missing(rt: HostRuntime) {
     assert!(rt; stays_open(alloc, book, CloseFault::Missing(1)));
 }
 
-/// Whether the book takes blocks 2 and 1, of which block 1 ends otherwise, and has no verdict before block 0. Block 1
-/// as it was is refused.
+/// Whether the book takes blocks 2 and 1, of which block 1 ends otherwise, and has no verdict before block 0, which it
+/// takes last. Block 1 as it was is refused.
 fn takes_other_lines(alloc: Global, book: &mut Book) -> bool {
     let Some(middle) = block_of_read(alloc, 1) else {
         return false;
@@ -308,6 +291,7 @@ fn takes_other_lines(alloc: Global, book: &mut Book) -> bool {
         && takes(alloc, book, strobe_last(alloc, middle))
         && book.so_far().is_none()
         && refuses(alloc, book, block_of_read(alloc, 1), InsertFault::Doubled)
+        && takes(alloc, book, block_of_read(alloc, 0))
 }
 
 /// Block 2 doesn't open with what another block 1 leaves.
@@ -318,11 +302,10 @@ fn torn_by_lines(rt: HostRuntime) {
         panic!(rt; "no book")
     };
     assert!(rt; takes_other_lines(alloc, &mut book));
-    assert!(rt; takes(alloc, &mut book, block_of_read(alloc, 0)));
     assert!(rt; stays_open(alloc, book, CloseFault::Torn(2)));
 }
 
-/// Whether the book takes block 1 as an early block 2, and an empty block 1.
+/// Whether the book takes block 1 as an early block 2, an empty block 1, and block 0.
 fn takes_early_and_empty(alloc: Global, book: &mut Book) -> bool {
     let Some(middle) = block_of_read(alloc, 1) else {
         return false;
@@ -333,7 +316,9 @@ fn takes_early_and_empty(alloc: Global, book: &mut Book) -> bool {
         steps: Steps::new(Vec::new(alloc)),
     };
     let early = starting_at(40, numbered(2, middle));
-    takes(alloc, book, early) && takes(alloc, book, Some(empty))
+    takes(alloc, book, early)
+        && takes(alloc, book, Some(empty))
+        && takes(alloc, book, block_of_read(alloc, 0))
 }
 
 /// Blocks 1 and 2 join, since block 1 is empty; block 2 doesn't come later than block 0.
@@ -344,7 +329,6 @@ fn torn_across_an_empty_block(rt: HostRuntime) {
         panic!(rt; "no book")
     };
     assert!(rt; takes_early_and_empty(alloc, &mut book));
-    assert!(rt; takes(alloc, &mut book, block_of_read(alloc, 0)));
     assert!(rt; stays_open(alloc, book, CloseFault::Torn(2)));
 }
 
