@@ -6,20 +6,12 @@ use std::alloc::Global;
 use std::process::Abort;
 use vme_board::{Bench, Board, BoardFault, Closed, DeliveryRefusal, Filed, Refused, Stage};
 use vme_summary::{Judged, Span, join};
-use vme_test_recordings::{Recording, capture_of};
+use vme_test_recordings::{GRANTED, READ, capture_of};
 use vme_trace::{Block, Change, Changes, Level, Line, Lines, Step, Steps, Verdict};
-
-/// Every line but A24 to A31 goes high, the bus is granted to slot 2, and its master reads with modifier 39.
-const READ: Recording = Recording {
-    slots: 3,
-    opening: "",
-    steps: "high_but_A24_to_A31;BR3=0;BG3.0=0;BG3.1=0;BBSY=0 BR3=1;BG3.0=1;BG3.1=1;AM1=0 AM2=0 A05=0;AS=0;\
-        DS0=0 DS1=0;DTACK=0;AS=1 DS0=1 DS1=1;DTACK=1;BBSY=1",
-};
 
 /// The worked recording, in blocks of one step.
 pub(crate) fn blocks_of_read(alloc: Global) -> Option<Vec<Block>> {
-    capture_of(alloc, READ, "")?.cut(alloc, 1).ok()
+    capture_of(alloc, GRANTED, READ)?.cut(alloc, 1).ok()
 }
 
 fn step_of(alloc: Global, time: u64, changes: &[Change]) -> Option<Step> {
