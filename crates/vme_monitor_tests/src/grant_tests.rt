@@ -1,41 +1,29 @@
 //! Grants and tenures: a tenure, a grant that is taken twice (B2), one that goes past the last slot (B4), and a tenure
 //! that is open after a reset.
 
-use crate::recordings::{break_of, enumerates_memories, finds, mark};
+use crate::recordings::{Continued, GRANTED, IDLE, break_of, enumerates_memories, finds, mark};
 use vme_chains::grant::Grant;
 use vme_monitor::mark::{Mark, MarkKind};
-use vme_test_recordings::Recording;
+use vme_test_recordings::READ;
 use vme_trace::{Line, Rule};
 
 /// A read in a tenure of slot 2: 14 steps.
-pub(crate) const TENURE: Recording = Recording {
-    slots: 3,
-    opening: "",
-    steps: "high_but_A24_to_A31_D00_to_D31;\
-        BR3=0;BG3.0=0;BG3.1=0;BBSY=0 BR3=1;BG3.0=1;BG3.1=1;AM1=0 AM2=0 A05=0;AS=0;DS0=0 DS1=0;DTACK=0;\
-        AS=1 DS0=1 DS1=1;DTACK=1;BBSY=1",
-};
+pub(crate) const TENURE: Continued = (GRANTED, READ);
 
 /// A grant that is taken twice.
-const TWICE: Recording = Recording {
-    slots: 3,
-    opening: "",
-    steps: "high_but_A24_to_A31_D00_to_D31;BR3=0;BG3.0=0;BG3.1=0;BG3.2=0;BBSY=0 BR3=1;BBSY=1;BBSY=0",
-};
+const TWICE: Continued = (
+    IDLE,
+    "BR3=0;BG3.0=0;BG3.1=0;BG3.2=0;BBSY=0 BR3=1;BBSY=1;BBSY=0",
+);
 
 /// A grant that goes past the last slot, and is taken.
-const PAST: Recording = Recording {
-    slots: 3,
-    opening: "",
-    steps: "high_but_A24_to_A31_D00_to_D31;BR3=0;BG3.0=0;BG3.1=0;BG3.2=0;BG3.3=0;BBSY=0",
-};
+const PAST: Continued = (IDLE, "BR3=0;BG3.0=0;BG3.1=0;BG3.2=0;BG3.3=0;BBSY=0");
 
 /// A tenure in which the bus is reset, and busy as judging starts again.
-const RESET: Recording = Recording {
-    slots: 3,
-    opening: "",
-    steps: "high_but_A24_to_A31_D00_to_D31;BR3=0;BG3.0=0;BBSY=0 BR3=1;SYSRESET=0;BG3.0=1;SYSRESET=1;BBSY=1",
-};
+const RESET: Continued = (
+    IDLE,
+    "BR3=0;BG3.0=0;BBSY=0 BR3=1;SYSRESET=0;BG3.0=1;SYSRESET=1;BBSY=1",
+);
 
 fn tenure(instant: u32, level: u8, slot: u8) -> Mark {
     mark(instant, MarkKind::Tenure { level, slot })

@@ -1,21 +1,20 @@
 //! The handshake: pipelined cycles, an answer without a transfer (H4), and the data of a write, known and unknown.
 
-use crate::recordings::{break_of, capture_of, enumerates_memories, finds, mark, whole};
+use crate::recordings::{
+    Continued, GRANTED, break_of, capture_of, enumerates_memories, finds, mark, whole,
+};
 use std::alloc::Global;
 use vme_dtb::handshake::Dtb;
 use vme_monitor::mark::{Mark, MarkKind};
 use vme_monitor::monitor::Monitor;
-use vme_test_recordings::Recording;
 use vme_trace::{Class, Lanes, Line, MovedBytes, Rule};
 
 /// Two reads in two cycles, the second of which starts while the first transfer is still open.
-const PIPELINED: Recording = Recording {
-    slots: 3,
-    opening: "",
-    steps: "high_but_A24_to_A31_D00_to_D31;\
-        BR3=0;BG3.0=0;BG3.1=0;BBSY=0 BR3=1;BG3.0=1;BG3.1=1;AM1=0 AM2=0 A05=0;AS=0;DS0=0 DS1=0;DTACK=0;AS=1;\
-        A05=1;AS=0;DS0=1 DS1=1;DTACK=1;DS0=0 DS1=0;DTACK=0;AS=1 DS0=1 DS1=1;DTACK=1 BBSY=1",
-};
+const PIPELINED: Continued = (
+    GRANTED,
+    "AM1=0 AM2=0 A05=0;AS=0;DS0=0 DS1=0;DTACK=0;AS=1;A05=1;AS=0;DS0=1 DS1=1;DTACK=1;\
+        DS0=0 DS1=0;DTACK=0;AS=1 DS0=1 DS1=1;DTACK=1 BBSY=1",
+);
 
 fn cycle(instant: u32, address: u32) -> Mark {
     let (class, am) = (Class::S, 0x39);
@@ -62,12 +61,7 @@ fn cycles_and_transfers_are_marked(rt: HostRuntime) {
     assert!(rt; finds::<Dtb>(rt.alloc(), &PIPELINED, None, Some(&want)));
 }
 
-const STRAY: Recording = Recording {
-    slots: 3,
-    opening: "",
-    steps: "high_but_A24_to_A31_D00_to_D31;\
-        BR3=0;BG3.0=0;BG3.1=0;BBSY=0 BR3=1;BG3.0=1;BG3.1=1;AM1=0 AM2=0 A05=0;AS=0;DTACK=0",
-};
+const STRAY: Continued = (GRANTED, "AM1=0 AM2=0 A05=0;AS=0;DTACK=0");
 
 #[test]
 fn an_answer_falls_in_a_transfer(rt: HostRuntime) {
@@ -76,7 +70,7 @@ fn an_answer_falls_in_a_transfer(rt: HostRuntime) {
 }
 
 /// The marks of the answers in a recording.
-fn answers_of(alloc: Global, recording: &Recording) -> Option<Vec<Mark>> {
+fn answers_of(alloc: Global, recording: &Continued) -> Option<Vec<Mark>> {
     let capture = capture_of(alloc, recording)?;
     let all = whole::<Dtb>(alloc, &capture, 1000)?;
     let mut marks = Dtb::marks(alloc, &all, Dtb::start(capture.opening())).ok()?;
@@ -90,20 +84,18 @@ fn answers_of(alloc: Global, recording: &Recording) -> Option<Vec<Mark>> {
 }
 
 /// Whether `want` are the marks of the answers in a recording.
-fn has_answers(alloc: Global, recording: &Recording, want: &[Mark]) -> bool {
+fn has_answers(alloc: Global, recording: &Continued, want: &[Mark]) -> bool {
     match answers_of(alloc, recording) {
         Some(answers) => answers.as_slice() == want,
         None => false,
     }
 }
 
-const READ_AND_WRITE: Recording = Recording {
-    slots: 3,
-    opening: "",
-    steps: "high_but_A24_to_A31_D00_to_D31;\
-        BR3=0;BG3.0=0;BG3.1=0;BBSY=0 BR3=1;BG3.0=1;BG3.1=1;AM1=0 A05=0 D00=1 D01=0 D02=0 D03=1;\
-        AS=0 D04=0 D05=1 D06=0 D07=1;DS0=0;DTACK=0;DS0=1;DTACK=1;WRITE=0;DS0=0;DTACK=0 D01=1;AS=1 DS0=1 D00=0;DTACK=1",
-};
+const READ_AND_WRITE: Continued = (
+    GRANTED,
+    "AM1=0 A05=0 D00=1 D01=0 D02=0 D03=1;AS=0 D04=0 D05=1 D06=0 D07=1;DS0=0;DTACK=0;DS0=1;DTACK=1;\
+        WRITE=0;DS0=0;DTACK=0 D01=1;AS=1 DS0=1 D00=0;DTACK=1",
+);
 
 /// The levels of D00 to D07 before the answer are the data of a write, whatever they change to with the answer. A read
 /// has no data.
@@ -118,13 +110,11 @@ fn the_answer_of_a_write_has_its_data(rt: HostRuntime) {
     assert!(rt; has_answers(rt.alloc(), &READ_AND_WRITE, &want));
 }
 
-const AT_ONCE: Recording = Recording {
-    slots: 3,
-    opening: "",
-    steps: "high_but_A24_to_A31_D00_to_D31;\
-        BR3=0;BG3.0=0;BG3.1=0;BBSY=0 BR3=1;BG3.0=1;BG3.1=1;AM1=0 WRITE=0 A05=0 D00=0 D01=0 D02=0 D03=0;\
-        AS=0 D04=0 D05=0 D06=0;DS0=0 DS1=0 DTACK=0 D00=1;BBSY=1",
-};
+const AT_ONCE: Continued = (
+    GRANTED,
+    "AM1=0 WRITE=0 A05=0 D00=0 D01=0 D02=0 D03=0;AS=0 D04=0 D05=0 D06=0;\
+        DS0=0 DS1=0 DTACK=0 D00=1;BBSY=1",
+);
 
 /// A hexadecimal digit with an unknown line has its bit set in `unknown`. If the answer comes as the transfer starts,
 /// the data are those at that instant.

@@ -1,55 +1,40 @@
-use crate::recordings::{break_of, capture_of, enumerates_memories, finds, mark, whole};
+use crate::recordings::{Continued, break_of, capture_of, enumerates_memories, finds, mark, whole};
 use std::alloc::Global;
 use vme_monitor::both::Both;
 use vme_monitor::known::{Known, KnownRules};
 use vme_monitor::mark::{Mark, MarkKind};
 use vme_monitor::monitor::Monitor;
 use vme_monitor::without_marks::BreakMonitor;
-use vme_test_recordings::Recording;
+use vme_test_recordings::{DUMPED, DUMPED_READ};
 use vme_trace::{Line, Rule};
 
-/// Six lines are unknown, and all others as in an idle bus that is busy.
-const DUMPED: &str = "high AM1=0 BBSY=0 AS=x DS0=x DS1=x DTACK=x BERR=x IACK=x";
+const READ: Continued = (DUMPED, DUMPED_READ);
 
-const READ: Recording = Recording {
-    slots: 1,
-    opening: DUMPED,
-    steps: "AS=1 DS0=1 DS1=1 DTACK=1 BERR=1 IACK=1;AS=0;DS0=0;DTACK=0;AS=1 DS0=1;DTACK=1",
-};
+const NOTHING: Continued = (DUMPED, "");
 
-const NOTHING: Recording = Recording {
-    slots: 1,
-    opening: DUMPED,
-    steps: "",
-};
-
-const LOST_STROBE: Recording = Recording {
-    slots: 1,
-    opening: DUMPED,
-    steps: "AS=1 DS0=1 DS1=1 DTACK=1 BERR=1 IACK=1;AS=x;DS0=0;DTACK=0;AS=1 DS0=1;DTACK=1",
-};
+const LOST_STROBE: Continued = (
+    DUMPED,
+    "AS=1 DS0=1 DS1=1 DTACK=1 BERR=1 IACK=1;AS=x;DS0=0;DTACK=0;AS=1 DS0=1;DTACK=1",
+);
 
 /// The bus is reset in a cycle, as a strobe gets lost, and idle again at the sixth step. There judging starts again,
 /// until it isn't known whether the bus is reset.
-const RESET: Recording = Recording {
-    slots: 1,
-    opening: DUMPED,
-    steps: "AS=1 DS0=1 DS1=1 DTACK=1 BERR=1 IACK=1;AS=0;AS=x SYSRESET=0;DS0=x;SYSRESET=1;AS=1 DS0=1;AS=0;SYSRESET=x",
-};
+const RESET: Continued = (
+    DUMPED,
+    "AS=1 DS0=1 DS1=1 DTACK=1 BERR=1 IACK=1;AS=0;AS=x SYSRESET=0;DS0=x;SYSRESET=1;AS=1 DS0=1;AS=0;SYSRESET=x",
+);
 
 /// The bus is reset after a control line was lost.
-const LATE_RESET: Recording = Recording {
-    slots: 1,
-    opening: DUMPED,
-    steps: "AS=1 DS0=1 DS1=1 DTACK=1 BERR=1 IACK=1;AS=x;SYSRESET=0;AS=1;SYSRESET=1;AS=0",
-};
+const LATE_RESET: Continued = (
+    DUMPED,
+    "AS=1 DS0=1 DS1=1 DTACK=1 BERR=1 IACK=1;AS=x;SYSRESET=0;AS=1;SYSRESET=1;AS=0",
+);
 
 /// The bus is reset from the first step on.
-const NEVER_IDLE: Recording = Recording {
-    slots: 1,
-    opening: DUMPED,
-    steps: "AS=1 DS0=1 DS1=1 DTACK=1 BERR=1 IACK=1 SYSRESET=0;AS=0;AS=1",
-};
+const NEVER_IDLE: Continued = (
+    DUMPED,
+    "AS=1 DS0=1 DS1=1 DTACK=1 BERR=1 IACK=1 SYSRESET=0;AS=0;AS=1",
+);
 
 /// The start of judging, at the first step.
 const START: Mark = Mark {
@@ -95,7 +80,7 @@ fn without_marks_breaks_alone_are_found(rt: HostRuntime) {
 }
 
 /// Whether judging starts in a recording.
-fn is_started(alloc: Global, recording: &Recording) -> Option<bool> {
+fn is_started(alloc: Global, recording: &Continued) -> Option<bool> {
     let capture = capture_of(alloc, recording)?;
     let all = whole::<Known>(alloc, &capture, 2)?;
     Some(Known::started(Known::leaving(&all, Known::start(capture.opening()))))

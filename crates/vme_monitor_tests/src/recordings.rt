@@ -7,8 +7,26 @@ use vme_monitor::monitor::{Monitor, join, none};
 use vme_test_recordings::Recording;
 use vme_trace::{Block, Break, Capture, Line, Rule};
 
-pub(crate) fn capture_of(alloc: Global, recording: &Recording) -> Option<Capture> {
-    vme_test_recordings::capture_of(alloc, *recording, "")
+/// A recording that continues: how it begins, and its further steps.
+pub(crate) type Continued = (Recording, &'static str);
+
+/// The bus becomes idle. A24 to A31 and the data lines stay unknown.
+pub(crate) const IDLE: Recording = Recording {
+    slots: 3,
+    opening: "",
+    steps: "high_but_A24_to_A31_D00_to_D31",
+};
+
+/// The bus becomes idle, and a requester in slot 2 takes it by level 3. A24 to A31 and the data lines stay unknown.
+pub(crate) const GRANTED: Recording = Recording {
+    slots: 3,
+    opening: "",
+    steps: "high_but_A24_to_A31_D00_to_D31;BR3=0;BG3.0=0;BG3.1=0;BBSY=0 BR3=1;BG3.0=1;BG3.1=1",
+};
+
+pub(crate) fn capture_of(alloc: Global, recording: &Continued) -> Option<Capture> {
+    let (start, more) = *recording;
+    vme_test_recordings::capture_of(alloc, start, more)
 }
 
 pub(crate) fn summary_of<M: Monitor>(alloc: Global, block: &Block) -> Option<M::Summary> {
@@ -68,7 +86,7 @@ static SIZES: [u32; 5] = [1, 2, 3, 9, 65536];
 /// sizes.
 pub(crate) fn finds<M: Monitor>(
     alloc: Global,
-    recording: &Recording,
+    recording: &Continued,
     first_break: Option<Break>,
     marks: Option<&[Mark]>,
 ) -> bool {
