@@ -1,10 +1,11 @@
 //! Invalid deliveries and a doubled one, by four workers at once.
 
-use super::recordings::{READ_ROWS, block_of, no_changes, picked, read_blocks, read_by_fives};
+use super::recordings::{block_of, no_changes, picked, read_blocks, read_by_fives};
 use super::{CONFORMING, Outcome, assert_told, told_of};
 use std::alloc::Global;
 use std::test::Fail;
 use vme_floor::Answer;
+use vme_test_recordings::GRANTED_READ_LISTING;
 use vme_trace::{Block, Steps};
 
 /// How often each run is made.
@@ -60,7 +61,7 @@ fn a_stranger_a_malformed_and_a_doubled_block(rt: HostRuntime) -> Result<(), Fai
     for _ in 0..TIMES {
         let told = told_of(&rt, rt.alloc(), &deliveries, 3, 4).ok_or("not told")?;
         assert!(rt; told.outcome == CONFORMING && are_as_due(&told.answers));
-        assert!(rt; told.listing.as_slice() == READ_ROWS.as_bytes());
+        assert!(rt; told.listing.as_slice() == GRANTED_READ_LISTING.as_bytes());
     }
     Ok(())
 }

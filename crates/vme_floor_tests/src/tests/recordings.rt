@@ -3,25 +3,17 @@
 
 use smallvec::SmallVec;
 use std::alloc::Global;
-use vme_test_recordings::push_steps;
+use vme_test_recordings::{GRANTED, READ, capture_of, push_steps};
 use vme_trace::{Block, Capture, Changes, Lines};
-
-/// Every line except A24 to A31 goes high, and a requester in slot 2 takes the bus by level 3.
-const GRANTED: &str = "high_but_A24_to_A31;BR3=0;BG3.0=0;BG3.1=0;BBSY=0 BR3=1;BG3.0=1;BG3.1=1";
 
 /// A standard address.
 const ADDRESSED: &str = "AM1=0 AM2=0 A05=0";
 
 /// A read at this address, of five steps.
-const READ: &str = "AS=0;DS0=0 DS1=0;DTACK=0;AS=1 DS0=1 DS1=1;DTACK=1";
+const CYCLE: &str = "AS=0;DS0=0 DS1=0;DTACK=0;AS=1 DS0=1 DS1=1;DTACK=1";
 
 /// An answer that no strobe asks for.
 const UNASKED_ANSWER: &str = "AS=0;DTACK=0;AS=1;DTACK=1";
-
-/// The listing of the read.
-pub(super) const READ_ROWS: &str =
-    "vmecheck listing 3\nstart 1\ntenure 5 level 3 slot 2 end 14\ncycle 9 S 39 FFFFDE end 12\n\
-        transfer 10 of 9 read DTACK 11 close 12\nverdict conforming\n";
 
 /// The listing of the read that a reset ends.
 pub(super) const RESET_ROWS: &str =
@@ -32,21 +24,14 @@ pub(super) fn no_changes(alloc: Global) -> Changes {
     Changes::new(SmallVec::new(alloc))
 }
 
-/// The recording of the texts, one after the other, on a backplane of three slots whose lines are unknown before, cut
-/// into blocks of `size` steps.
-fn blocks_of(alloc: Global, texts: &[&str], size: u32) -> Option<Vec<Block>> {
-    let opening = Lines::new(3)?;
-    let mut steps = Vec::new(alloc);
-    for text in texts {
-        push_steps(alloc, &mut steps, &opening, text)?;
-    }
-    let recording = Capture::new(opening, steps).ok()?;
-    recording.cut(alloc, size).ok()
+/// The recording that begins as `GRANTED` and continues with `more`, in blocks of `size` steps.
+fn blocks_of(alloc: Global, more: &str, size: u32) -> Option<Vec<Block>> {
+    capture_of(alloc, GRANTED, more)?.cut(alloc, size).ok()
 }
 
 /// A read, after which the bus is given back: 14 steps.
 pub(super) fn read_blocks(alloc: Global, size: u32) -> Option<Vec<Block>> {
-    blocks_of(alloc, &[GRANTED, ADDRESSED, READ, "BBSY=1"], size)
+    blocks_of(alloc, READ, size)
 }
 
 /// The block with the number `number`.
@@ -62,41 +47,38 @@ pub(super) fn block_of(blocks: Vec<Block>, number: u32) -> Option<Block> {
 /// The read in blocks of five steps, and then its second block again, with a fall of DS0 alone as its last step.
 pub(super) fn read_by_fives(alloc: Global) -> Option<Vec<Block>> {
     let mut blocks = read_blocks(alloc, 5)?;
-    let other = blocks_of(alloc, &[GRANTED, ADDRESSED, "AS=0;DS0=0"], 5)?;
+    let other = blocks_of(alloc, "AM1=0 AM2=0 A05=0;AS=0;DS0=0", 5)?;
     blocks.push(block_of(other, 1)?).ok()?;
     Some(blocks)
 }
 
 /// A read that a reset leaves without an answer, in 13 blocks of one step.
 pub(super) fn reset_blocks(alloc: Global) -> Option<Vec<Block>> {
-    let reset = "AS=0;DS0=0 DS1=0;SYSRESET=0;AS=1 DS0=1 DS1=1 BBSY=1;SYSRESET=1";
-    blocks_of(alloc, &[GRANTED, ADDRESSED, reset], 1)
+    let reset = "AM1=0 AM2=0 A05=0;AS=0;DS0=0 DS1=0;SYSRESET=0;AS=1 DS0=1 DS1=1 BBSY=1;SYSRESET=1";
+    blocks_of(alloc, reset, 1)
 }
 
 /// The halves of a recording of 22 steps with an answer and no strobe at instant 10, and again at instant 14.
 pub(super) fn broken_twice(alloc: Global) -> Option<Vec<Block>> {
-    blocks_of(
-        alloc,
-        &[
-            GRANTED,
-            ADDRESSED,
-            UNASKED_ANSWER,
-            UNASKED_ANSWER,
-            READ,
-            "BBSY=1",
-        ],
-        11,
-    )
+    let more = "AM1=0 AM2=0 A05=0;AS=0;DTACK=0;AS=1;DTACK=1;AS=0;DTACK=0;AS=1;DTACK=1;\
+        AS=0;DS0=0 DS1=0;DTACK=0;AS=1 DS0=1 DS1=1;DTACK=1;BBSY=1";
+    blocks_of(alloc, more, 11)
 }
 
 /// A recording of 200 steps: 18 reads, an answer without a strobe at instant 100, and 19 more reads and a part of one.
 pub(super) fn broken_blocks(alloc: Global, size: u32) -> Option<Vec<Block>> {
-    let mut texts = [READ; 41];
-    texts[0] = GRANTED;
+    let start = GRANTED;
+    let mut texts = [CYCLE; 41];
+    texts[0] = start.steps;
     texts[1] = ADDRESSED;
     texts[20] = UNASKED_ANSWER;
     texts[40] = "AS=0;DS0=0 DS1=0;DTACK=0";
-    blocks_of(alloc, &texts, size)
+    let opening = Lines::new(start.slots)?;
+    let mut steps = Vec::new(alloc);
+    for text in &texts {
+        push_steps(alloc, &mut steps, &opening, text)?;
+    }
+    Capture::new(opening, steps).ok()?.cut(alloc, size).ok()
 }
 
 /// The listing of the recording of `broken_blocks`.
@@ -118,6 +100,16 @@ pub(super) fn broken_rows(alloc: Global) -> Option<String> {
         .ok()?;
     Some(rows)
 }
+
+/// The orders of three blocks.
+pub(super) static ORDERS: [&[usize]; 6] = [
+    &[0, 1, 2],
+    &[0, 2, 1],
+    &[1, 0, 2],
+    &[1, 2, 0],
+    &[2, 0, 1],
+    &[2, 1, 0],
+];
 
 /// Copies of the blocks with the indices `places`.
 pub(super) fn picked(alloc: Global, blocks: &[Block], places: &[usize]) -> Option<Vec<Block>> {

@@ -1,10 +1,11 @@
 //! Runs where memory is refused once.
 
-use super::recordings::{READ_ROWS, picked_of};
+use super::recordings::{ORDERS, picked_of};
 use super::{CONFORMING, Outcome, RunOutcome, told_of};
 use std::process::Abort;
 use std::test::Fail;
 use vme_floor::Answer;
+use vme_test_recordings::GRANTED_READ_LISTING;
 use vme_trace::Block;
 
 /// Whether a delivery of the number `number` was refused for want of memory.
@@ -21,7 +22,7 @@ fn assert_run(rt: &impl Abort, deliveries: &[Block], told: &RunOutcome) {
     match told.outcome {
         Outcome::Judged(_) => {
             assert!(rt; told.outcome == CONFORMING && told.steps == 14);
-            assert!(rt; told.listing.as_slice() == READ_ROWS.as_bytes());
+            assert!(rt; told.listing.as_slice() == GRANTED_READ_LISTING.as_bytes());
         }
         Outcome::Missing(number) => {
             assert!(rt; is_short(deliveries, told.answers.as_slice(), number));
@@ -34,17 +35,10 @@ fn assert_run(rt: &impl Abort, deliveries: &[Block], told: &RunOutcome) {
 /// `tests/memory/run` refuses each of its allocations in turn. If the deliveries can't be made, they are made again.
 #[test]
 fn each_growth_fails_once(rt: HostRuntime) -> Result<(), Fail> {
-    for order in [
-        [0, 1, 2],
-        [0, 2, 1],
-        [1, 0, 2],
-        [1, 2, 0],
-        [2, 0, 1],
-        [2, 1, 0],
-    ] {
-        let deliveries = match picked_of(rt.alloc(), 5, &order) {
+    for order in ORDERS.iter() {
+        let deliveries = match picked_of(rt.alloc(), 5, order) {
             Some(deliveries) => deliveries,
-            None => picked_of(rt.alloc(), 5, &order).ok_or("no blocks")?,
+            None => picked_of(rt.alloc(), 5, order).ok_or("no blocks")?,
         };
         let told = told_of(&rt, rt.alloc(), &deliveries, 3, 3).ok_or("not told")?;
         assert_run(&rt, &deliveries, &told);
