@@ -1,3 +1,4 @@
+use vme_audit::Outcome::{Conforming, NotCovered};
 use vme_audit::{CoverageGap, Outcome};
 use vme_trace::Rule;
 
@@ -18,6 +19,14 @@ pub(crate) struct WorkedRecording {
     pub outcomes: (Outcome, Outcome),
 }
 
+/// No transfer is answered, and one is required.
+const UNANSWERED: Outcome = NotCovered {
+    gap: CoverageGap::FewAnswers {
+        answered: 0,
+        wanted: 1,
+    },
+};
+
 /// Recordings of each kind of cycle, of breaks and of resets.
 pub(crate) static RECORDINGS: [WorkedRecording; 22] = [
     // nothing is known
@@ -29,10 +38,10 @@ pub(crate) static RECORDINGS: [WorkedRecording; 22] = [
         counts: [0, 0, 0, 0, 0, 0, 0, 0, 0, 0, 0],
         events: "",
         outcomes: (
-            Outcome::NotCovered {
+            NotCovered {
                 gap: CoverageGap::NeverIdle,
             },
-            Outcome::NotCovered {
+            NotCovered {
                 gap: CoverageGap::NeverIdle,
             },
         ),
@@ -45,15 +54,7 @@ pub(crate) static RECORDINGS: [WorkedRecording; 22] = [
         breaks: &[],
         counts: [0, 0, 0, 0, 0, 0, 0, 0, 0, 0, 0],
         events: "stretch",
-        outcomes: (
-            Outcome::Conforming { allowed: 0 },
-            Outcome::NotCovered {
-                gap: CoverageGap::FewAnswers {
-                    answered: 0,
-                    wanted: 1,
-                },
-            },
-        ),
+        outcomes: (Conforming { allowed: 0 }, UNANSWERED),
     },
     // a read in a tenure
     WorkedRecording {
@@ -65,10 +66,7 @@ pub(crate) static RECORDINGS: [WorkedRecording; 22] = [
         counts: [0, 1, 1, 0, 0, 0, 1, 0, 1, 0, 0],
         events: "stretch cycle cycle_end transfer strobe_rise answer_fall answer_rise answer \
             slot_grant_fall slot_grant_rise arbiter_fall tenure",
-        outcomes: (
-            Outcome::Conforming { allowed: 0 },
-            Outcome::Conforming { allowed: 0 },
-        ),
+        outcomes: (Conforming { allowed: 0 }, Conforming { allowed: 0 }),
     },
     // two stray answers, the second before an idle instant and another after one
     WorkedRecording {
@@ -78,15 +76,7 @@ pub(crate) static RECORDINGS: [WorkedRecording; 22] = [
         breaks: &[(1, 0, Rule::H4, "DTACK"), (5, 40, Rule::H4, "BERR")],
         counts: [0, 0, 0, 0, 0, 0, 0, 0, 0, 0, 0],
         events: "stretch answer_fall",
-        outcomes: (
-            Outcome::Conforming { allowed: 2 },
-            Outcome::NotCovered {
-                gap: CoverageGap::FewAnswers {
-                    answered: 0,
-                    wanted: 1,
-                },
-            },
-        ),
+        outcomes: (Conforming { allowed: 2 }, UNANSWERED),
     },
     // the bus is taken without a grant, and a read follows
     WorkedRecording {
@@ -96,10 +86,7 @@ pub(crate) static RECORDINGS: [WorkedRecording; 22] = [
         breaks: &[(1, 0, Rule::B1, "BBSY")],
         counts: [0, 0, 1, 0, 0, 0, 1, 0, 1, 0, 0],
         events: "stretch cycle cycle_end transfer strobe_rise answer_fall answer_rise answer tenure",
-        outcomes: (
-            Outcome::Conforming { allowed: 1 },
-            Outcome::Conforming { allowed: 1 },
-        ),
+        outcomes: (Conforming { allowed: 1 }, Conforming { allowed: 1 }),
     },
     // a lost strobe and a stray answer, then a read with a second answer line
     WorkedRecording {
@@ -113,10 +100,7 @@ pub(crate) static RECORDINGS: [WorkedRecording; 22] = [
         ],
         counts: [0, 0, 1, 0, 0, 0, 1, 0, 0, 1, 0],
         events: "stretch cycle transfer answer_fall answer",
-        outcomes: (
-            Outcome::Conforming { allowed: 3 },
-            Outcome::Conforming { allowed: 3 },
-        ),
+        outcomes: (Conforming { allowed: 3 }, Conforming { allowed: 3 }),
     },
     // a reset amid a write, a break, a reset that is not judged, and one that is
     WorkedRecording {
@@ -131,15 +115,7 @@ pub(crate) static RECORDINGS: [WorkedRecording; 22] = [
         ],
         counts: [2, 0, 1, 0, 0, 0, 0, 1, 0, 0, 1],
         events: "stretch cycle transfer write answer_fall tenure",
-        outcomes: (
-            Outcome::Conforming { allowed: 3 },
-            Outcome::NotCovered {
-                gap: CoverageGap::FewAnswers {
-                    answered: 0,
-                    wanted: 1,
-                },
-            },
-        ),
+        outcomes: (Conforming { allowed: 3 }, UNANSWERED),
     },
     // a block transfer that changes direction, and a write after it
     WorkedRecording {
@@ -151,10 +127,7 @@ pub(crate) static RECORDINGS: [WorkedRecording; 22] = [
         breaks: &[(12, 110, Rule::C2, "DTACK")],
         counts: [0, 0, 1, 1, 0, 0, 2, 2, 2, 1, 1],
         events: "stretch cycle cycle_end transfer write strobe_rise answer_fall answer_rise answer block_again",
-        outcomes: (
-            Outcome::Conforming { allowed: 1 },
-            Outcome::Conforming { allowed: 1 },
-        ),
+        outcomes: (Conforming { allowed: 1 }, Conforming { allowed: 1 }),
     },
     // a single cycle that reads and writes, and is answered once more
     WorkedRecording {
@@ -165,10 +138,7 @@ pub(crate) static RECORDINGS: [WorkedRecording; 22] = [
         breaks: &[(13, 120, Rule::C1, "DTACK")],
         counts: [0, 0, 1, 0, 0, 0, 1, 2, 2, 0, 1],
         events: "stretch cycle transfer write strobe_rise answer_fall answer_rise answer single_again",
-        outcomes: (
-            Outcome::Conforming { allowed: 1 },
-            Outcome::Conforming { allowed: 1 },
-        ),
+        outcomes: (Conforming { allowed: 1 }, Conforming { allowed: 1 }),
     },
     // an interrupt is acknowledged through three slots, and answered twice
     WorkedRecording {
@@ -180,10 +150,7 @@ pub(crate) static RECORDINGS: [WorkedRecording; 22] = [
         counts: [0, 0, 0, 0, 0, 1, 2, 0, 1, 0, 1],
         events: "stretch cycle transfer strobe_rise answer_fall answer_rise answer interrupt \
             interrupt_again acknowledge_fall",
-        outcomes: (
-            Outcome::Conforming { allowed: 1 },
-            Outcome::Conforming { allowed: 1 },
-        ),
+        outcomes: (Conforming { allowed: 1 }, Conforming { allowed: 1 }),
     },
     // an acknowledge is passed on out of turn
     WorkedRecording {
@@ -193,15 +160,7 @@ pub(crate) static RECORDINGS: [WorkedRecording; 22] = [
         breaks: &[(1, 0, Rule::I1, "IA.2"), (5, 40, Rule::I2, "IA.1")],
         counts: [0, 0, 0, 0, 0, 1, 0, 0, 0, 0, 0],
         events: "stretch cycle acknowledge_fall",
-        outcomes: (
-            Outcome::Conforming { allowed: 2 },
-            Outcome::NotCovered {
-                gap: CoverageGap::FewAnswers {
-                    answered: 0,
-                    wanted: 1,
-                },
-            },
-        ),
+        outcomes: (Conforming { allowed: 2 }, UNANSWERED),
     },
     // a transfer stays without an answer, and another starts
     WorkedRecording {
@@ -212,10 +171,10 @@ pub(crate) static RECORDINGS: [WorkedRecording; 22] = [
         counts: [0, 0, 1, 0, 0, 0, 1, 0, 0, 0, 1],
         events: "stretch cycle transfer strobe_rise",
         outcomes: (
-            Outcome::NotCovered {
+            NotCovered {
                 gap: CoverageGap::NeverIdleBehind { instant: 4 },
             },
-            Outcome::NotCovered {
+            NotCovered {
                 gap: CoverageGap::NeverIdleBehind { instant: 4 },
             },
         ),
@@ -229,18 +188,13 @@ pub(crate) static RECORDINGS: [WorkedRecording; 22] = [
         counts: [1, 0, 2, 0, 0, 0, 2, 0, 0, 0, 2],
         events: "stretch cycle transfer",
         outcomes: (
-            Outcome::NotCovered {
+            NotCovered {
                 gap: CoverageGap::Hang {
                     instant: 8,
                     time: 70,
                 },
             },
-            Outcome::NotCovered {
-                gap: CoverageGap::FewAnswers {
-                    answered: 0,
-                    wanted: 1,
-                },
-            },
+            UNANSWERED,
         ),
     },
     // a transfer without a cycle is answered, and one in a cycle
@@ -251,10 +205,7 @@ pub(crate) static RECORDINGS: [WorkedRecording; 22] = [
         breaks: &[(2, 10, Rule::H8, "DTACK")],
         counts: [0, 0, 1, 0, 0, 0, 2, 0, 1, 0, 1],
         events: "stretch cycle cycle_end transfer strobe_rise answer_fall answer_rise answer",
-        outcomes: (
-            Outcome::Conforming { allowed: 1 },
-            Outcome::Conforming { allowed: 1 },
-        ),
+        outcomes: (Conforming { allowed: 1 }, Conforming { allowed: 1 }),
     },
     // a transfer without a cycle waits
     WorkedRecording {
@@ -265,18 +216,13 @@ pub(crate) static RECORDINGS: [WorkedRecording; 22] = [
         counts: [0, 0, 1, 0, 0, 0, 1, 0, 0, 0, 1],
         events: "stretch cycle transfer",
         outcomes: (
-            Outcome::NotCovered {
+            NotCovered {
                 gap: CoverageGap::Hang {
                     instant: 1,
                     time: 0,
                 },
             },
-            Outcome::NotCovered {
-                gap: CoverageGap::FewAnswers {
-                    answered: 0,
-                    wanted: 1,
-                },
-            },
+            UNANSWERED,
         ),
     },
     // grants are passed on through three slots
@@ -288,15 +234,7 @@ pub(crate) static RECORDINGS: [WorkedRecording; 22] = [
         breaks: &[(6, 50, Rule::B4, "BBSY")],
         counts: [0, 1, 0, 0, 0, 0, 0, 0, 0, 0, 0],
         events: "stretch slot_grant_fall slot_grant_rise arbiter_fall tenure",
-        outcomes: (
-            Outcome::Conforming { allowed: 1 },
-            Outcome::NotCovered {
-                gap: CoverageGap::FewAnswers {
-                    answered: 0,
-                    wanted: 1,
-                },
-            },
-        ),
+        outcomes: (Conforming { allowed: 1 }, UNANSWERED),
     },
     // a slot passes a grant on without having one, and keeps one
     WorkedRecording {
@@ -306,15 +244,7 @@ pub(crate) static RECORDINGS: [WorkedRecording; 22] = [
         breaks: &[(1, 0, Rule::G1, "BG2.1"), (8, 70, Rule::B1, "BBSY")],
         counts: [0, 0, 0, 0, 0, 0, 0, 0, 0, 0, 0],
         events: "stretch slot_grant_fall slot_grant_rise arbiter_fall tenure",
-        outcomes: (
-            Outcome::Conforming { allowed: 2 },
-            Outcome::NotCovered {
-                gap: CoverageGap::FewAnswers {
-                    answered: 0,
-                    wanted: 1,
-                },
-            },
-        ),
+        outcomes: (Conforming { allowed: 2 }, UNANSWERED),
     },
     // the arbiter grants twice at once, and again in a tenure
     WorkedRecording {
@@ -324,15 +254,7 @@ pub(crate) static RECORDINGS: [WorkedRecording; 22] = [
         breaks: &[(3, 20, Rule::G3, "BG1.0"), (7, 60, Rule::G4, "BG1.0")],
         counts: [0, 0, 0, 0, 0, 0, 0, 0, 0, 0, 0],
         events: "stretch arbiter_fall",
-        outcomes: (
-            Outcome::Conforming { allowed: 2 },
-            Outcome::NotCovered {
-                gap: CoverageGap::FewAnswers {
-                    answered: 0,
-                    wanted: 1,
-                },
-            },
-        ),
+        outcomes: (Conforming { allowed: 2 }, UNANSWERED),
     },
     // a free code, an address that moves, and data that are not known
     WorkedRecording {
@@ -343,10 +265,7 @@ pub(crate) static RECORDINGS: [WorkedRecording; 22] = [
         breaks: &[(9, 80, Rule::S1, "A05"), (18, 170, Rule::U4, "D01")],
         counts: [0, 0, 3, 0, 1, 0, 2, 0, 2, 0, 0],
         events: "stretch cycle cycle_end transfer write strobe_rise answer_fall answer_rise answer",
-        outcomes: (
-            Outcome::Conforming { allowed: 2 },
-            Outcome::Conforming { allowed: 2 },
-        ),
+        outcomes: (Conforming { allowed: 2 }, Conforming { allowed: 2 }),
     },
     // a break cuts a cycle off at its start, and breaks cut transfers off
     WorkedRecording {
@@ -360,10 +279,7 @@ pub(crate) static RECORDINGS: [WorkedRecording; 22] = [
         ],
         counts: [0, 0, 2, 0, 0, 0, 2, 0, 1, 0, 1],
         events: "stretch cycle cycle_end transfer strobe_rise answer_fall answer_rise answer tenure",
-        outcomes: (
-            Outcome::Conforming { allowed: 3 },
-            Outcome::Conforming { allowed: 3 },
-        ),
+        outcomes: (Conforming { allowed: 3 }, Conforming { allowed: 3 }),
     },
     // a break in the last step
     WorkedRecording {
@@ -374,10 +290,10 @@ pub(crate) static RECORDINGS: [WorkedRecording; 22] = [
         counts: [0, 0, 1, 0, 0, 0, 1, 0, 1, 0, 0],
         events: "stretch cycle cycle_end transfer strobe_rise answer_fall answer_rise answer",
         outcomes: (
-            Outcome::NotCovered {
+            NotCovered {
                 gap: CoverageGap::NeverIdleBehind { instant: 7 },
             },
-            Outcome::NotCovered {
+            NotCovered {
                 gap: CoverageGap::NeverIdleBehind { instant: 7 },
             },
         ),
@@ -391,9 +307,6 @@ pub(crate) static RECORDINGS: [WorkedRecording; 22] = [
         breaks: &[(5, 40, Rule::H3, "DS1"), (11, 100, Rule::H5, "DTACK")],
         counts: [0, 0, 2, 0, 0, 0, 2, 0, 1, 0, 1],
         events: "stretch cycle transfer strobe_fall answer_fall answer",
-        outcomes: (
-            Outcome::Conforming { allowed: 2 },
-            Outcome::Conforming { allowed: 2 },
-        ),
+        outcomes: (Conforming { allowed: 2 }, Conforming { allowed: 2 }),
     },
 ];
