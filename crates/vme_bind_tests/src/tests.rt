@@ -5,10 +5,10 @@ use std::process::Abort;
 use std::test::Fail;
 use vcd_read::{FaultKind, Stopped, VcdFault, read_vcd};
 use vme_bind::{
-    BindFault, BindFaultKind, Binding, CaptureFault, DumpReader, SpeculativeReader, TextReader,
-    read_binding,
+    BindFault, BindFaultKind, Binding, CaptureFault, DumpReader, SpeculativeReader, StepCollector,
+    TextReader, read_binding,
 };
-use vme_test_recordings::BUS_BINDING;
+use vme_test_recordings::{BUS_BINDING, write_steps};
 use vme_trace::{Capture, Level, Line, Lines, Step, StepVisitor};
 
 /// The declarations of the variables of `BUS_BINDING`, except AS.
@@ -200,39 +200,11 @@ fn captured_by_dump(alloc: Global, binding: &[&str], dump: &[&str]) -> Option<Ca
     binding.capture(alloc, &dump).ok()
 }
 
-fn sign_of(level: Level) -> u8 {
-    match level {
-        Level::Low => b'0',
-        Level::High => b'1',
-        Level::Unknown => b'x',
-    }
-}
-
 /// The steps of a recording, a line each.
 fn written(alloc: Global, steps: &[Step]) -> Result<Vec<u8>, AllocError> {
     let mut text = Vec::new(alloc);
-    for step in steps {
-        write_step(alloc, &mut text, step)?;
-    }
+    write_steps(alloc, &mut text, steps)?;
     Ok(text)
-}
-
-fn write_step(alloc: Global, text: &mut Vec<u8>, step: &Step) -> Result<(), AllocError> {
-    let time = step.time;
-    push(text, format!(in alloc; "#{time}")?)?;
-    for change in step.changes.as_slice() {
-        text.push(b' ')?;
-        text.extend_from_slice(change.line.name().as_bytes())?;
-        text.push(b'=')?;
-        text.push(sign_of(change.level))?;
-    }
-    text.push(b'\n')?;
-    Ok(())
-}
-
-fn push(text: &mut Vec<u8>, part: String) -> Result<(), AllocError> {
-    text.extend_from_slice(part.as_bytes())?;
-    Ok(())
 }
 
 /// Whether the steps are written as `wanted`.
@@ -657,28 +629,6 @@ fn want_of_memory_at_a_text_is_the_fault(rt: HostRuntime) {
     }
 }
 
-/// A recording that is kept as it is made.
-#[derive(Drop)]
-struct KeptSteps {
-    opening: Lines,
-    steps: Vec<Step>,
-}
-
-impl StepVisitor for KeptSteps {
-    ghost recorded = { λ kept. record { opening = kept.opening; steps = kept.steps.items } };
-
-    fn open(&mut self, opening: &Lines) {
-        self.opening = *opening;
-        self.steps.clear();
-    }
-
-    fn step(&mut self, alloc: Global, step: Step) -> Result<(), AllocError> {
-        let _ = alloc;
-        self.steps.push(step)?;
-        Ok(())
-    }
-}
-
 /// The same reference; its type may be shared between threads.
 fn shared<T: Sync>(value: &T) -> &T
     ensures { result.now ≡ value.now }
@@ -694,11 +644,11 @@ fn sent<T: Send>(value: T) -> T
 }
 
 /// A recording without steps.
-fn none_kept(alloc: Global, opening: Lines) -> KeptSteps
+fn none_kept(alloc: Global, opening: Lines) -> StepCollector
     ensures opening { result.opening ≡ opening }
     ensures steps { result.steps.items ≡ [] }
 {
-    KeptSteps {
+    StepCollector {
         opening,
         steps: Vec::new(alloc),
     }
@@ -707,9 +657,9 @@ fn none_kept(alloc: Global, opening: Lines) -> KeptSteps
 /// Keeps the step that ends an instant, and those of a piece.
 fn keep_all(
     alloc: Global,
-    kept: &mut KeptSteps,
+    kept: &mut StepCollector,
     ended: Option<Step>,
-    own: KeptSteps,
+    own: StepCollector,
 ) -> Result<(), AllocError> {
     if let Some(step) = ended {
         kept.step(alloc, step)?;
@@ -725,7 +675,7 @@ fn joined(
     alloc: Global,
     speculative: SpeculativeReader,
     piece: &[u8],
-    kept: &mut KeptSteps,
+    kept: &mut StepCollector,
 ) -> Option<SpeculativeReader> {
     let from = *speculative.now();
     let own = none_kept(alloc, from);
@@ -741,7 +691,7 @@ fn joined(
 }
 
 /// A dump of the bus that is read up to the end of `front`, in which its definitions end.
-fn begun(alloc: Global, front: &[&str]) -> Option<TextReader<KeptSteps>> {
+fn begun(alloc: Global, front: &[&str]) -> Option<TextReader<StepCollector>> {
     let binding = bound(alloc, &[BUS_BINDING])?;
     let front = together(alloc, front).ok()?;
     let kept = none_kept(alloc, Lines::new(1)?);
@@ -753,7 +703,7 @@ fn begun(alloc: Global, front: &[&str]) -> Option<TextReader<KeptSteps>> {
 static PIECES: [&str; 4] = ["#10 0p\n", "#20 0q\n", "#30 0s\n#40 1p 1q\n", "#50 1s\n"];
 
 /// The recording of the dump whose body has those pieces.
-fn kept_of_pieces(alloc: Global) -> Option<KeptSteps> {
+fn kept_of_pieces(alloc: Global) -> Option<StepCollector> {
     let text = begun(alloc, &[BUS, DECLARED, "#0 1p 1q 1r 1s 1t 1u\n"])?;
     let (mut speculative, mut kept) = text.into_speculative();
     for piece in PIECES.iter() {
@@ -806,30 +756,38 @@ fn a_text_is_between_items_outside_of_dump_sections(rt: HostRuntime) {
     assert!(rt; wrong.is_empty(), "{wrong}");
 }
 
-/// Begins to read the body of a dump whose definitions end in `front`, and reads what `front` has of the body.
-fn stopped_in_front(
+/// A dump that is read up to its body, where its definitions end in `front`, and what `front` has of the body.
+fn begun_before_body<'t>(
     alloc: Global,
     binding: &Binding,
-    front: &[u8],
-) -> Option<Result<TextReader<KeptSteps>, Stopped<KeptSteps>>> {
+    front: &'t [u8],
+) -> Option<(TextReader<StepCollector>, &'t [u8])> {
     let kept = none_kept(alloc, Lines::new(1)?);
     let begun = binding.begin_before_body(alloc, front, kept).ok()?;
-    let (text, rest) = begun.ok()?;
-    Some(text.read_until_fault(alloc, rest))
+    begun.ok()
+}
+
+/// Reads the next piece of a body, up to its first fault.
+fn read_piece(
+    alloc: Global,
+    text: TextReader<StepCollector>,
+    piece: &[u8],
+) -> Result<TextReader<StepCollector>, Stopped<StepCollector>> {
+    text.read_until_fault(alloc, piece)
 }
 
 /// Where reading further pieces of a body stops.
 fn stopped_behind(
     alloc: Global,
-    text: TextReader<KeptSteps>,
+    text: TextReader<StepCollector>,
     second: &str,
     third: &str,
-) -> Option<Stopped<KeptSteps>> {
-    let text = match text.read_until_fault(alloc, second.as_bytes()) {
+) -> Option<Stopped<StepCollector>> {
+    let text = match read_piece(alloc, text, second.as_bytes()) {
         Ok(text) => text,
         Err(stopped) => return Some(stopped),
     };
-    let text = match text.read_until_fault(alloc, third.as_bytes()) {
+    let text = match read_piece(alloc, text, third.as_bytes()) {
         Ok(text) => text,
         Err(stopped) => return Some(stopped),
     };
@@ -837,10 +795,16 @@ fn stopped_behind(
 }
 
 /// Where reading a body in three pieces stops, of which `first` follows the definitions at once.
-fn stopped_by(alloc: Global, first: &str, second: &str, third: &str) -> Option<Stopped<KeptSteps>> {
+fn stopped_by(
+    alloc: Global,
+    first: &str,
+    second: &str,
+    third: &str,
+) -> Option<Stopped<StepCollector>> {
     let binding = bound(alloc, &[BUS_BINDING])?;
     let front = together(alloc, &[BUS, DECLARED, first]).ok()?;
-    match stopped_in_front(alloc, &binding, front.as_slice())? {
+    let (text, rest) = begun_before_body(alloc, &binding, front.as_slice())?;
+    match read_piece(alloc, text, rest) {
         Ok(text) => stopped_behind(alloc, text, second, third),
         Err(stopped) => Some(stopped),
     }
@@ -890,7 +854,7 @@ static STOPS: [(&str, &str, &str, u64, FaultKind, &str, u64); 4] = [
 /// Whether reading stops with the fault `wanted`, the steps `steps` and the last time `last`.
 fn is_stop(
     alloc: Global,
-    stopped: Option<Stopped<KeptSteps>>,
+    stopped: Option<Stopped<StepCollector>>,
     wanted: VcdFault,
     steps: &str,
     last: u64,
@@ -925,16 +889,12 @@ fn faults_before_and_in_body(alloc: Global) -> Option<(BindFault, VcdFault)> {
     let binding = bound(alloc, &[BUS_BINDING])?;
     let front = ["$scope module bus $end\n", DECLARED, "#0 1q 2p\n"];
     let front = together(alloc, &front).ok()?;
-    let kept = none_kept(alloc, Lines::new(1)?);
-    let begun = binding
-        .begin_before_body(alloc, front.as_slice(), kept)
-        .ok()?;
-    let (text, rest) = begun.ok()?;
+    let (text, rest) = begun_before_body(alloc, &binding, front.as_slice())?;
     let known = text.binding_fault()?;
     if rest != b"#0 1q 2p\n".as_slice() {
         return None;
     }
-    let stopped = text.read_until_fault(alloc, rest).err()?;
+    let stopped = read_piece(alloc, text, rest).err()?;
     Some((known, stopped.fault))
 }
 
@@ -959,9 +919,9 @@ fn the_fault_of_a_binding_is_known_before_the_body(rt: HostRuntime) {
 /// The reader after it took what it takes of `bytes`, and the bytes that it leaves.
 fn left_of<'b, 't>(
     alloc: Global,
-    reader: DumpReader<'b, KeptSteps>,
+    reader: DumpReader<'b, StepCollector>,
     bytes: &'t [u8],
-) -> Option<(DumpReader<'b, KeptSteps>, &'t [u8])> {
+) -> Option<(DumpReader<'b, StepCollector>, &'t [u8])> {
     let Ok((reader, count)) = reader.take(alloc, bytes) else {
         return None;
     };
@@ -969,7 +929,7 @@ fn left_of<'b, 't>(
 }
 
 /// Whether the reader is in the body, and has met no fault so far.
-fn is_at_body(reader: &DumpReader<'_, KeptSteps>) -> bool {
+fn is_at_body(reader: &DumpReader<'_, StepCollector>) -> bool {
     matches!(reader, DumpReader::Body(_))
 }
 
@@ -978,7 +938,7 @@ fn read_in_two(
     alloc: Global,
     first: &str,
     last: &str,
-) -> Option<(Option<VcdFault>, Result<KeptSteps, CaptureFault>)> {
+) -> Option<(Option<VcdFault>, Result<StepCollector, CaptureFault>)> {
     let binding = bound(alloc, &[BUS_BINDING])?;
     let reader = DumpReader::new(&binding, none_kept(alloc, Lines::new(1)?));
     // the definitions don't end here
@@ -1032,7 +992,7 @@ fn a_fault_is_known_as_the_text_comes(rt: HostRuntime) {
 
 /// The fault of a reader that has failed with `met`.
 fn fault_after(met: VcdFault) -> Option<VcdFault> {
-    let reader: DumpReader<'_, KeptSteps> = DumpReader::failed(CaptureFault::Dump(met)).ok()?;
+    let reader: DumpReader<'_, StepCollector> = DumpReader::failed(CaptureFault::Dump(met)).ok()?;
     reader.fault()
 }
 
