@@ -2,7 +2,8 @@ use std::alloc::{AllocError, Global};
 use vcd_read::{FaultKind, VcdFault};
 use vme_bind::{BindFault, BindFaultKind, Binding, CaptureFault, read_binding};
 use vme_step_reader::{StepReader, StoppedSteps, begin_last_steps, begin_steps};
-use vme_trace::{Change, Level, Line, Step};
+use vme_test_recordings::write_steps;
+use vme_trace::{Level, Line};
 
 /// A binding of two lines to variables, and of the others to levels.
 const LINES: &str = "\
@@ -50,39 +51,6 @@ fn after_definitions(alloc: Global, body: &str) -> Result<Vec<u8>, AllocError> {
 
 fn bound(alloc: Global) -> Option<Binding> {
     read_binding(alloc, LINES.as_bytes()).ok()
-}
-
-fn digit_of(level: Level) -> u8 {
-    match level {
-        Level::Low => b'0',
-        Level::High => b'1',
-        Level::Unknown => b'x',
-    }
-}
-
-fn write_change(text: &mut Vec<u8>, change: &Change) -> Result<(), AllocError> {
-    text.push(b' ')?;
-    text.extend_from_slice(change.line.name().as_bytes())?;
-    text.push(b'=')?;
-    text.push(digit_of(change.level))?;
-    Ok(())
-}
-
-fn write_time(alloc: Global, text: &mut Vec<u8>, time: u64) -> Result<(), AllocError> {
-    text.extend_from_slice(format!(in alloc; "#{time}")?.as_bytes())?;
-    Ok(())
-}
-
-/// Adds the steps, a line for each.
-fn write_steps(alloc: Global, text: &mut Vec<u8>, steps: &[Step]) -> Result<(), AllocError> {
-    for step in steps {
-        write_time(alloc, text, step.time)?;
-        for change in step.changes.as_slice() {
-            write_change(text, change)?;
-        }
-        text.push(b'\n')?;
-    }
-    Ok(())
 }
 
 /// The fault at which reading stops, and the last time before it. None is want of memory.
@@ -152,16 +120,24 @@ fn read_on(
     read_last(alloc, reader, dump.get(taken..).unwrap_or(&[]), text)
 }
 
-/// Reads a dump whose definitions are known to end only where it does.
-fn read_whole(
+/// The reader of a dump of which more comes up to each of `ends`, how many bytes it has taken, and how many of the ends
+/// have come. If the definitions are known to end only where the dump does, all have.
+fn begun_up_to(
     alloc: Global,
     binding: &Binding,
     dump: &[u8],
-    text: &mut Vec<u8>,
-) -> Result<(), StopFault> {
+    ends: &[usize],
+) -> Result<(StepReader, usize, usize), CaptureFault> {
+    for (count, end) in ends.iter().enumerate() {
+        match begin_steps(alloc, binding, dump.get(..*end).unwrap_or(&[])) {
+            Ok(Some((reader, taken))) => return Ok((reader, taken, count + 1)),
+            Ok(None) => (),
+            Err(fault) => return Err(fault),
+        }
+    }
     match begin_last_steps(alloc, binding, dump) {
-        Ok((reader, taken)) => { read_last(alloc, reader, dump.get(taken..).unwrap_or(&[]), text) }
-        Err(_) => Err(None),
+        Ok((reader, taken)) => Ok((reader, taken, ends.len())),
+        Err(fault) => Err(fault),
     }
 }
 
@@ -173,17 +149,13 @@ fn read_up_to(
     ends: &[usize],
     text: &mut Vec<u8>,
 ) -> Result<(), StopFault> {
-    for (count, end) in ends.iter().enumerate() {
-        match begin_steps(alloc, binding, dump.get(..*end).unwrap_or(&[])) {
-            Ok(Some(begun)) => {
-                let behind = ends.get(count + 1..).unwrap_or(&[]);
-                return read_on(alloc, begun, dump, behind, text);
-            }
-            Ok(None) => (),
-            Err(_) => return Err(None),
+    match begun_up_to(alloc, binding, dump, ends) {
+        Ok((reader, taken, count)) => {
+            let behind = ends.get(count..).unwrap_or(&[]);
+            read_on(alloc, (reader, taken), dump, behind, text)
         }
+        Err(_) => Err(None),
     }
-    read_whole(alloc, binding, dump, text)
 }
 
 /// Whether reading a dump up to each of `ends` gives the steps `wanted`, and this fault.
@@ -309,27 +281,10 @@ fn a_fault_comes_after_the_steps_before_it(rt: HostRuntime) {
     }
 }
 
-/// Why a dump that is read up to each of `ends` has no steps.
-fn refused_up_to(
-    alloc: Global,
-    binding: &Binding,
-    dump: &[u8],
-    ends: &[usize],
-) -> Option<CaptureFault> {
-    for end in ends {
-        match begin_steps(alloc, binding, dump.get(..*end).unwrap_or(&[])) {
-            Ok(None) => (),
-            Ok(Some(_)) => return None,
-            Err(fault) => return Some(fault),
-        }
-    }
-    begin_last_steps(alloc, binding, dump).err()
-}
-
-/// As `refused_up_to`, where `size` bytes more come at once.
+/// Why a dump has no steps, where `size` bytes more come at once.
 fn refused(alloc: Global, binding: &Binding, dump: &str, size: usize) -> Option<CaptureFault> {
     match ends_of(alloc, dump.len(), size) {
-        Ok(ends) => refused_up_to(alloc, binding, dump.as_bytes(), &ends),
+        Ok(ends) => begun_up_to(alloc, binding, dump.as_bytes(), &ends).err(),
         Err(_) => None,
     }
 }
@@ -357,38 +312,29 @@ static REFUSED: [(&str, u64, FaultKind); 3] = [
 const UNBOUND: &str =
     "$scope module bus $end\n$var wire 1 p AS $end\n$enddefinitions $end\n#0 2p\n";
 
-/// Whether a dump has no steps by any of `SIZES`, for the fault `wanted` of the dump.
-fn is_dump_refused(alloc: Global, binding: &Binding, dump: &str, wanted: VcdFault) -> bool {
+/// Whether a dump has no steps by any of `SIZES`, for the fault `wanted`.
+fn is_refused(alloc: Global, binding: &Binding, dump: &str, wanted: CaptureFault) -> bool {
     let mut same = true;
     for size in SIZES.iter() {
         same &= match refused(alloc, binding, dump, *size) {
-            Some(CaptureFault::Dump(fault)) => fault == wanted,
-            Some(CaptureFault::Binding(_)) | None => false,
+            Some(fault) => fault == wanted,
+            None => false,
         };
     }
     same
 }
 
-/// Whether `UNBOUND` has no steps by any of `SIZES`, for a fault of the binding.
-fn is_binding_refused(alloc: Global, binding: &Binding) -> bool {
-    let mut same = true;
-    for size in SIZES.iter() {
-        same &= match refused(alloc, binding, UNBOUND, *size) {
-            Some(CaptureFault::Binding(BindFault { line, kind })) => {
-                line == 3 && kind == BindFaultKind::NoSuchPath
-            }
-            Some(CaptureFault::Dump(_)) | None => false,
-        };
-    }
-    same
-}
-
-/// Whether `UNBOUND` and each of `REFUSED` are refused so.
+/// Whether `UNBOUND` is refused for a fault of the binding, and each of `REFUSED` for its own.
 fn are_refused(alloc: Global, binding: &Binding) -> bool {
-    let mut same = is_binding_refused(alloc, binding);
+    let unbound = BindFault {
+        line: 3,
+        kind: BindFaultKind::NoSuchPath,
+    };
+    let mut same = is_refused(alloc, binding, UNBOUND, CaptureFault::Binding(unbound));
     for (dump, line, kind) in REFUSED.iter() {
         let (line, kind) = (*line, *kind);
-        same &= is_dump_refused(alloc, binding, dump, VcdFault { line, kind });
+        let fault = CaptureFault::Dump(VcdFault { line, kind });
+        same &= is_refused(alloc, binding, dump, fault);
     }
     same
 }
