@@ -1,4 +1,5 @@
 use std::alloc::{AllocError, Global};
+use vme_listing::ListFault::{BadHeader, BadRow, Unsorted};
 use vme_listing::{
     AnswerLine, Direction, ListFault, ListedVerdict, Listing, Row, RowReader, Version, data_digits,
     read_listing, write_listing,
@@ -522,79 +523,70 @@ static GOOD_RESETS: [&[u8]; 9] = [
 /// Rows after the header of version 3, one of which may not be there, and the fault.
 static BAD_RESETS: [(&[u8], ListFault); 21] = [
     // A reset with nothing before it, or with neither a start nor a verdict after it.
-    (b"reset 1\n", ListFault::BadRow { row: 1 }),
+    (b"reset 1\n", BadRow { row: 1 }),
     (
         b"start 1\nreset 2\nreset 3\nverdict conforming\n",
-        ListFault::BadRow { row: 3 },
+        BadRow { row: 3 },
     ),
     (
         b"start 1\nreset 2\ntenure 3 level 3 slot 2 end -\nverdict conforming\n",
-        ListFault::BadRow { row: 3 },
+        BadRow { row: 3 },
     ),
     (
         b"start 1\nreset 2\ntransfer 3 read pending\nverdict conforming\n",
-        ListFault::BadRow { row: 3 },
+        BadRow { row: 3 },
     ),
-    (
-        b"start 1\nreset 2\nverdict never-idle\n",
-        ListFault::BadRow { row: 3 },
-    ),
-    (b"start 1\nreset 2\n", ListFault::BadRow { row: 3 }),
+    (b"start 1\nreset 2\nverdict never-idle\n", BadRow { row: 3 }),
+    (b"start 1\nreset 2\n", BadRow { row: 3 }),
     // A later start that doesn't follow a reset.
-    (
-        b"start 1\nstart 2\nverdict conforming\n",
-        ListFault::BadRow { row: 2 },
-    ),
+    (b"start 1\nstart 2\nverdict conforming\n", BadRow { row: 2 }),
     (
         b"start 1\ntenure 5 level 3 slot 2 end -\ncycle 9 S 39 FFFFDE end -\ntransfer 10 read pending\nstart 13\n\
             reset 11\nverdict conforming\n",
-        ListFault::BadRow { row: 5 },
+        BadRow { row: 5 },
     ),
     (
         b"start 1\nreset 2\nstart 3\ntransfer 4 read pending\nstart 5\nverdict conforming\n",
-        ListFault::BadRow { row: 5 },
+        BadRow { row: 5 },
     ),
     // Starts and resets out of order.
     (
         b"start 5\ntenure 4 level 3 slot 2 end -\nverdict conforming\n",
-        ListFault::Unsorted { row: 2 },
+        Unsorted { row: 2 },
     ),
     (
         b"start 5\nreset 5\nverdict conforming\n",
-        ListFault::Unsorted { row: 2 },
+        Unsorted { row: 2 },
     ),
     (
         b"start 5\nreset 4\nverdict conforming\n",
-        ListFault::Unsorted { row: 2 },
+        Unsorted { row: 2 },
     ),
     (
         b"start 1\ncycle 9 F 1F end -\nreset 9\nverdict conforming\n",
-        ListFault::Unsorted { row: 3 },
+        Unsorted { row: 3 },
     ),
     (
         b"start 1\nreset 11\nstart 10\nverdict conforming\n",
-        ListFault::Unsorted { row: 3 },
+        Unsorted { row: 3 },
     ),
     (
         b"start 1\nreset 11\nstart 13\ncycle 12 F 1F end -\nverdict conforming\n",
-        ListFault::Unsorted { row: 4 },
+        Unsorted { row: 4 },
     ),
     // A row that may not be there, and that is out of order, too.
-    (
-        b"start 5\nstart 3\nverdict conforming\n",
-        ListFault::BadRow { row: 2 },
-    ),
+    (b"start 5\nstart 3\nverdict conforming\n", BadRow { row: 2 }),
     (
         b"start 5\nreset 7\nreset 6\nverdict conforming\n",
-        ListFault::BadRow { row: 3 },
+        BadRow { row: 3 },
     ),
     // Lines that are no row.
-    (b"start 1\nreset 02\n", ListFault::BadRow { row: 2 }),
-    (b"start 1\nreset\n", ListFault::BadRow { row: 2 }),
-    (b"start 1\nreset 2 \n", ListFault::BadRow { row: 2 }),
+    (b"start 1\nreset 02\n", BadRow { row: 2 }),
+    (b"start 1\nreset\n", BadRow { row: 2 }),
+    (b"start 1\nreset 2 \n", BadRow { row: 2 }),
     (
         b"start 1\ntransfer 10 of 9 write DTACK 11 close -\nverdict conforming\n",
-        ListFault::BadRow { row: 2 },
+        BadRow { row: 2 },
     ),
 ];
 
@@ -644,66 +636,50 @@ fn older_versions(rt: HostRuntime) {
     let reset = b"start 1\nreset 2\nverdict conforming\n";
     let early = b"start 5\ntenure 4 level 3 slot 2 end -\nverdict unreadable U1 11 SYSRESET\n";
     for header in OLDER.iter() {
-        assert!(rt;
-            has_fault(
-                rt.alloc(),
-                header,
-                reset,
-                Some(ListFault::BadRow { row: 2 })
-            )
-        );
+        assert!(rt; has_fault(rt.alloc(), header, reset, Some(BadRow { row: 2 })));
         assert!(rt; has_fault(rt.alloc(), header, early, None));
     }
 }
 
 /// Texts with a fault: its kind and its row.
 static FAULTS: [(&[u8], ListFault); 15] = [
-    (b"", ListFault::BadHeader),
-    (b"vmecheck listing 1", ListFault::BadHeader),
-    (
-        b"vmecheck listing 4\nverdict never-idle\n",
-        ListFault::BadHeader,
-    ),
-    (b"vmecheck listing 3\n", ListFault::BadRow { row: 1 }),
-    (b"vmecheck listing 2\n", ListFault::BadRow { row: 1 }),
-    (b"vmecheck listing 1\n", ListFault::BadRow { row: 1 }),
+    (b"", BadHeader),
+    (b"vmecheck listing 1", BadHeader),
+    (b"vmecheck listing 4\nverdict never-idle\n", BadHeader),
+    (b"vmecheck listing 3\n", BadRow { row: 1 }),
+    (b"vmecheck listing 2\n", BadRow { row: 1 }),
+    (b"vmecheck listing 1\n", BadRow { row: 1 }),
     (
         b"vmecheck listing 1\ntenure 5 open end 7\n",
-        ListFault::BadRow { row: 1 },
+        BadRow { row: 1 },
     ),
-    (
-        b"vmecheck listing 1\nstart 01\n",
-        ListFault::BadRow { row: 1 },
-    ),
-    (
-        b"vmecheck listing 1\nstart 4294967296\n",
-        ListFault::BadRow { row: 1 },
-    ),
+    (b"vmecheck listing 1\nstart 01\n", BadRow { row: 1 }),
+    (b"vmecheck listing 1\nstart 4294967296\n", BadRow { row: 1 }),
     (
         b"vmecheck listing 1\nverdict conforming\n",
-        ListFault::BadRow { row: 1 },
+        BadRow { row: 1 },
     ),
     (
         b"vmecheck listing 1\nstart 1\nverdict conforming\nverdict conforming\n",
-        ListFault::BadRow { row: 2 },
+        BadRow { row: 2 },
     ),
     (
         b"vmecheck listing 1\nverdict never-idle\n ",
-        ListFault::BadRow { row: 1 },
+        BadRow { row: 1 },
     ),
     (
         b"vmecheck listing 1\nstart 1\ntenure 5 level 3 slot 2 end 14\ncycle 9 S 39 FFFFDE end 12\n\
                 transfer 10 of 9 read DTACK 11 close 12\n",
-        ListFault::BadRow { row: 5 },
+        BadRow { row: 5 },
     ),
     (
         b"vmecheck listing 1\nstart 1\ncycle 9 S 39 FFFFDE end 12\ntenure 5 level 3 slot 2 end 14\n\
                 transfer 10 of 9 read DTACK 11 close 12\nverdict conforming\n",
-        ListFault::Unsorted { row: 3 },
+        Unsorted { row: 3 },
     ),
     (
         b"vmecheck listing 1\nstart 1\ntransfer 9 read pending\ncycle 9 F 1F end -\n",
-        ListFault::Unsorted { row: 3 },
+        Unsorted { row: 3 },
     ),
 ];
 
@@ -713,7 +689,7 @@ fn faults(rt: HostRuntime) {
         assert!(rt; fault_of(rt.alloc(), text) == Some(*fault));
     }
     let open = WORKED.strip_suffix(b"\n").unwrap_or_default();
-    assert!(rt; fault_of(rt.alloc(), open) == Some(ListFault::BadRow { row: 5 }));
+    assert!(rt; fault_of(rt.alloc(), open) == Some(BadRow { row: 5 }));
 }
 
 /// Lines that are no row after `start 1`.
@@ -756,7 +732,7 @@ fn with_line(alloc: Global, front: &[u8], line: &[u8]) -> Result<Vec<u8>, AllocE
 /// Whether a line after `front`, which has one row, is no row.
 fn is_bad_line(alloc: Global, front: &[u8], line: &[u8]) -> bool {
     match with_line(alloc, front, line) {
-        Ok(text) => fault_of(alloc, &text) == Some(ListFault::BadRow { row: 2 }),
+        Ok(text) => fault_of(alloc, &text) == Some(BadRow { row: 2 }),
         Err(_) => false,
     }
 }
@@ -807,7 +783,7 @@ static BAD_VERDICTS: [&[u8]; 15] = [
 /// Verdicts at the end of a listing, so that a fault is one of their form.
 #[test]
 fn last_verdicts(rt: HostRuntime) {
-    let fault = Some(ListFault::BadRow { row: 2 });
+    let fault = Some(BadRow { row: 2 });
     for front in STARTED.iter() {
         for line in GOOD_VERDICTS.iter() {
             assert!(rt; has_fault(rt.alloc(), front, line, None));
@@ -844,7 +820,7 @@ static GOOD_ROWS: [&[u8]; 9] = [
 /// Rows of each kind in the versions that have them, and two of one place in each.
 #[test]
 fn placed_rows(rt: HostRuntime) {
-    let fault = Some(ListFault::Unsorted { row: 3 });
+    let fault = Some(Unsorted { row: 3 });
     for front in STARTED.iter() {
         for rows in ONE_PLACE.iter() {
             assert!(rt; has_fault(rt.alloc(), front, rows, fault));
@@ -878,7 +854,7 @@ fn is_row_in(alloc: Global, version: usize, rows: &[u8], is_row: bool) -> bool {
     let fault = if is_row {
         None
     } else {
-        Some(ListFault::BadRow { row: 2 })
+        Some(BadRow { row: 2 })
     };
     has_fault(alloc, STARTED[version % 3], rows, fault)
 }
@@ -958,8 +934,8 @@ fn are_rows_read(mut reader: RowReader<'_>) -> bool {
 /// Whether the row after a start is a fault, which the next call gives again.
 fn is_fault_read(mut reader: RowReader<'_>) -> bool {
     reader.next() == Ok(Some(START))
-        && reader.next() == Err(ListFault::BadRow { row: 2 })
-        && reader.next() == Err(ListFault::BadRow { row: 2 })
+        && reader.next() == Err(BadRow { row: 2 })
+        && reader.next() == Err(BadRow { row: 2 })
 }
 
 #[test]
