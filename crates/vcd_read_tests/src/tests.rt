@@ -36,6 +36,27 @@ fn show_net(alloc: Global, text: &mut Vec<u8>, net: u32) -> Result<(), AllocErro
     Ok(())
 }
 
+fn show_index(
+    alloc: Global,
+    text: &mut Vec<u8>,
+    index: Option<(u32, u32)>,
+) -> Result<(), AllocError> {
+    if let Some((left, right)) = index {
+        text.extend_from_slice(format!(in alloc; "[{left}:{right}]")?.as_bytes())?;
+    }
+    Ok(())
+}
+
+fn show_size_and_net(
+    alloc: Global,
+    text: &mut Vec<u8>,
+    size: u32,
+    net: u32,
+) -> Result<(), AllocError> {
+    text.extend_from_slice(format!(in alloc; " {size} {net}\n")?.as_bytes())?;
+    Ok(())
+}
+
 fn show_variables(
     alloc: Global,
     text: &mut Vec<u8>,
@@ -43,11 +64,8 @@ fn show_variables(
 ) -> Result<(), AllocError> {
     for variable in variables {
         text.extend_from_slice(variable.path.as_bytes())?;
-        if let Some((left, right)) = variable.index {
-            text.extend_from_slice(format!(in alloc; "[{left}:{right}]")?.as_bytes())?;
-        }
-        let (size, net) = (variable.size, variable.net);
-        text.extend_from_slice(format!(in alloc; " {size} {net}\n")?.as_bytes())?;
+        show_index(alloc, text, variable.index)?;
+        show_size_and_net(alloc, text, variable.size, variable.net)?;
     }
     Ok(())
 }
@@ -190,6 +208,15 @@ fn ends_of(alloc: Global, text: &[u8], size: usize) -> Result<Vec<usize>, AllocE
     Ok(ends)
 }
 
+/// Reads the next piece of a body.
+fn read_piece(
+    alloc: Global,
+    pieces: BodyReader<Visits>,
+    piece: &[u8],
+) -> Result<BodyReader<Visits>, VcdFault> {
+    pieces.read(alloc, piece)
+}
+
 /// Reads what `front` has of the body.
 fn body_begun(
     alloc: Global,
@@ -197,7 +224,7 @@ fn body_begun(
     variables: Variables,
 ) -> Result<(BodyReader<Visits>, Variables), VcdFault> {
     let (pieces, rest) = front.before_body(no_visits(alloc));
-    Ok((pieces.read(alloc, rest)?, variables))
+    Ok((read_piece(alloc, pieces, rest)?, variables))
 }
 
 /// Reads a text up to the end of its prefix `front`. `None` if its definitions don't end in `front`.
@@ -208,21 +235,25 @@ fn begun(alloc: Global, front: &[u8]) -> Result<Option<(BodyReader<Visits>, Vari
     }
 }
 
-/// Reads a text from `begin` on, in pieces that end at `ends`.
+/// Reads a text from `begin` on, in pieces that end at `ends`. `Err` is where reading stops.
 fn read_on(
     alloc: Global,
     pieces: BodyReader<Visits>,
     text: &[u8],
     begin: usize,
     ends: &[usize],
-) -> Result<Visits, VcdFault> {
+) -> Result<Visits, Stopped<Visits>> {
     let mut pieces = pieces;
     let mut from = begin;
     for end in ends {
-        pieces = pieces.read(alloc, text.get(from..*end).unwrap_or(&[]))?;
+        let piece = text.get(from..*end).unwrap_or(&[]);
+        pieces = match pieces.read_until_fault(alloc, piece) {
+            Ok(pieces) => pieces,
+            Err(stopped) => return Err(stopped),
+        };
         from = *end;
     }
-    pieces.finish(alloc)
+    pieces.finish_or_stop(alloc)
 }
 
 /// What a dump says, by its variables and the visits of its body.
@@ -248,7 +279,10 @@ fn body_says(
     wanted: &str,
 ) -> Result<bool, VcdFault> {
     let (pieces, variables) = begun;
-    let told = read_on(alloc, pieces, text, begin, ends)?;
+    let told = match read_on(alloc, pieces, text, begin, ends) {
+        Ok(told) => told,
+        Err(stopped) => return Err(stopped.fault),
+    };
     let mut found = Vec::new(alloc);
     show_told(
         alloc,
@@ -359,7 +393,7 @@ fn read_in_order(
     piece: &[u8],
 ) -> Result<Joined, VcdFault> {
     Ok(Joined {
-        pieces: pieces.read(alloc, piece)?,
+        pieces: read_piece(alloc, pieces, piece)?,
         count: 0,
     })
 }
@@ -676,31 +710,11 @@ fn faults_of_bodies(rt: HostRuntime) {
     assert!(rt; wrong.is_none(), "{}", wrong.unwrap_or(""));
 }
 
-/// Where reading a body in pieces with the ends `ends` stops, if it does.
-fn stopped_in_body(
-    alloc: Global,
-    pieces: BodyReader<Visits>,
-    body: &[u8],
-    ends: &[usize],
-) -> Option<Stopped<Visits>> {
-    let mut pieces = pieces;
-    let mut from = 0;
-    for end in ends {
-        let piece = body.get(from..*end).unwrap_or(&[]);
-        pieces = match pieces.read_until_fault(alloc, piece) {
-            Ok(pieces) => pieces,
-            Err(stopped) => return Some(stopped),
-        };
-        from = *end;
-    }
-    pieces.finish_or_stop(alloc).err()
-}
-
 /// Where reading a text after its definitions stops, if it does, in pieces of at least `size` bytes.
 fn stopped_behind(alloc: Global, front: Front<'_>, size: usize) -> Option<Stopped<Visits>> {
     let (pieces, body) = front.before_body(no_visits(alloc));
     match ends_of(alloc, body, size) {
-        Ok(ends) => stopped_in_body(alloc, pieces, body, &ends),
+        Ok(ends) => read_on(alloc, pieces, body, 0, &ends).err(),
         Err(_) => None,
     }
 }
@@ -887,7 +901,7 @@ const ONE_CHANGE: &str = "$var wire 1 p AS $end\n$enddefinitions $end\n1p\n";
 fn first_wrong_time(alloc: Global, pieces: BodyReader<Visits>) -> Option<&'static str> {
     let mut pieces = pieces;
     for (piece, time) in TIMES.iter() {
-        pieces = match pieces.read(alloc, piece.as_bytes()) {
+        pieces = match read_piece(alloc, pieces, piece.as_bytes()) {
             Ok(pieces) => pieces,
             Err(_) => return Some(*piece),
         };
