@@ -1,61 +1,36 @@
-use smallvec::SmallVec;
 use std::alloc::Global;
 use std::test::Fail;
 use vme_account::{
-    Account, AccountVisitor, NoAccount, Occurrence, Part, RelatedEvent, RowKind, StepEvent,
+    Account, AccountVisitor, Occurrence, Part, RelatedEvent, RowKind, StepEvent,
     first_related_event, rests_high, second_related_event,
 };
 use vme_listing::{AnswerLine, Direction, Row};
-use vme_trace::{
-    Break, Change, Changes, LINE_COUNT, Level, Line, Lines, Rule, Step, StepVisitor, Verdict,
-};
+use vme_test_recordings::{opening_of, step_of};
+use vme_trace::{Break, Level, Line, Rule, StepVisitor, Verdict};
 
-/// The account of a recording of one slot whose opening has all lines High, except BBSY. One line changes at each
-/// instant, 10 time units after the one before.
-fn account_of(alloc: Global, changes: &[(Line, Level)]) -> Result<Account, Fail> {
-    let Some(mut opening) = Lines::new(1) else {
-        return Err(Fail::from("no backplane"));
-    };
-    for number in 0..LINE_COUNT {
-        if let Some(line) = Line::from_number(number) {
-            if opening.has(line) {
-                opening.set(line, Level::High);
-            }
-        }
-    }
-    opening.set(Line::BBSY, Level::Low);
+/// The account of a recording of one slot. Its opening is the one of the text `opening`, and its steps, which `steps`
+/// denotes, are ten units apart: the first is at the time `start`.
+pub(crate) fn account_of(alloc: Global, opening: &str, start: u64, steps: &str) -> Option<Account> {
+    let opening = opening_of(alloc, 1, opening)?;
     let mut visitor = AccountVisitor::new(alloc, &opening);
-    let mut time: u64 = 0;
-    for (line, level) in changes {
-        let change = Change {
-            line: *line,
-            level: *level,
-        };
+    let mut time = start;
+    for words in steps.split(';') {
+        let step = step_of(alloc, &opening, time, words)?;
+        visitor.step(alloc, step).ok()?;
         time = time.saturating_add(10);
-        let changes = Changes::new(SmallVec::from_slice(alloc, &[change])?);
-        visitor.step(alloc, Step { time, changes })?;
     }
-    match visitor.finish() {
-        Ok(account) => Ok(account),
-        Err(NoAccount::Memory | NoAccount::TooManyBlocks | NoAccount::TooManySteps) => {
-            Err(Fail::from("no account"))
-        }
-    }
+    visitor.finish().ok()
 }
 
-/// A cycle with a read.
-const READ: [(Line, Level); 6] = [
-    (Line::AS, Level::Low),
-    (Line::DS0, Level::Low),
-    (Line::DTACK, Level::Low),
-    (Line::DS0, Level::High),
-    (Line::DTACK, Level::High),
-    (Line::AS, Level::High),
-];
+/// The account of a recording whose opening has all lines High, except BBSY, and whose first step is at the time 10.
+fn busy_account(alloc: Global, steps: &str) -> Option<Account> {
+    account_of(alloc, "high BBSY=0", 10, steps)
+}
 
 #[test]
 fn rows_are_counted(rt: HostRuntime) -> Result<(), Fail> {
-    let account = account_of(rt.alloc(), &READ)?;
+    let steps = "AS=0;DS0=0;DTACK=0;DS0=1;DTACK=1;AS=1";
+    let account = busy_account(rt.alloc(), steps).ok_or("no account")?;
     assert!(rt; account.verdict() == Verdict::Conforming);
     for (kind, count) in [
         (RowKind::OpenTenures, 1),
@@ -83,7 +58,7 @@ fn open_rows_are_found(rt: HostRuntime) -> Result<(), Fail> {
         start: 0,
         end: None,
     };
-    let account = account_of(rt.alloc(), &READ[..3])?;
+    let account = busy_account(rt.alloc(), "AS=0;DS0=0;DTACK=0").ok_or("no account")?;
     assert!(rt; account.open_row(Part::Tenure) == Some(tenure));
     assert!(rt;
         matches!(
@@ -101,7 +76,7 @@ fn open_rows_are_found(rt: HostRuntime) -> Result<(), Fail> {
         lanes: None,
     };
     assert!(rt; account.open_row(Part::Transfer) == Some(transfer));
-    let account = account_of(rt.alloc(), &READ[..2])?;
+    let account = busy_account(rt.alloc(), "AS=0;DS0=0").ok_or("no account")?;
     let pending = Row::PendingTransfer {
         start: 2,
         direction: Direction::Read,
@@ -113,15 +88,7 @@ fn open_rows_are_found(rt: HostRuntime) -> Result<(), Fail> {
 
 #[test]
 fn what_was_open_at_a_reset_is_over(rt: HostRuntime) -> Result<(), Fail> {
-    let account = account_of(
-        rt.alloc(),
-        &[
-            READ[0],
-            READ[1],
-            (Line::SYSRESET, Level::Low),
-            (Line::SYSRESET, Level::High),
-        ],
-    )?;
+    let account = busy_account(rt.alloc(), "AS=0;DS0=0;SYSRESET=0;SYSRESET=1").ok_or("no account")?;
     for part in [Part::Tenure, Part::Cycle, Part::Transfer] {
         assert!(rt; account.open_row(part).is_none());
     }
@@ -133,20 +100,8 @@ fn what_was_open_at_a_reset_is_over(rt: HostRuntime) -> Result<(), Fail> {
 
 #[test]
 fn a_break_is_told_with_its_events(rt: HostRuntime) -> Result<(), Fail> {
-    let account = account_of(
-        rt.alloc(),
-        &[
-            READ[0],
-            READ[1],
-            READ[2],
-            READ[3],
-            READ[4],
-            (Line::DS0, Level::Low),
-            (Line::BERR, Level::Low),
-            (Line::DS1, Level::Low),
-            (Line::DS1, Level::High),
-        ],
-    )?;
+    let steps = "AS=0;DS0=0;DTACK=0;DS0=1;DTACK=1;DS0=0;BERR=0;DS1=0;DS1=1";
+    let account = busy_account(rt.alloc(), steps).ok_or("no account")?;
     let found = Break {
         instant: 8,
         time: 80,

@@ -1,11 +1,9 @@
-use smallvec::SmallVec;
-use std::alloc::Global;
+use crate::account_tests::account_of;
 use std::test::Fail;
 use vcd_read::{Variables, read_definitions};
-use vme_account::{Account, AccountVisitor};
 use vme_explain::Subject;
 use vme_picture::{Attribute, Attributes, Markup, Tag, is_picture, picture};
-use vme_trace::{Break, Change, Changes, Level, Line, Lines, Rule, Step, StepVisitor, Verdict};
+use vme_trace::{Break, Line, Rule, Verdict};
 
 #[test]
 fn names_are_escaped_and_elements_are_closed(rt: HostRuntime) -> Result<(), Fail> {
@@ -34,31 +32,6 @@ const DEFINITIONS: &str =
     "$timescale 10 ns $end\n$scope module b $end\n$var wire 1 p <AS>&\"1\" $end\n\
 $upscope $end\n$enddefinitions $end\n";
 
-/// The account of a recording of one slot whose opening has AS, the strobes and the answers High. One line changes at
-/// each instant.
-fn account_of(alloc: Global, changes: &[(Line, Level)]) -> Result<Account, Fail> {
-    let Some(mut opening) = Lines::new(1) else {
-        return Err(Fail::from("no backplane"));
-    };
-    for line in [Line::AS, Line::DS0, Line::DS1, Line::DTACK, Line::BERR] {
-        if opening.has(line) {
-            opening.set(line, Level::High);
-        }
-    }
-    let mut visitor = AccountVisitor::new(alloc, &opening);
-    let mut time: u64 = 0;
-    for (line, level) in changes {
-        let change = Change {
-            line: *line,
-            level: *level,
-        };
-        let changes = Changes::new(SmallVec::from_slice(alloc, &[change])?);
-        visitor.step(alloc, Step { time, changes })?;
-        time = time.saturating_add(10);
-    }
-    Ok(visitor.finish().ok().ok_or("no account")?)
-}
-
 #[test]
 fn a_break_is_drawn(rt: HostRuntime) -> Result<(), Fail> {
     let definitions = read_definitions(
@@ -66,14 +39,8 @@ fn a_break_is_drawn(rt: HostRuntime) -> Result<(), Fail> {
         DEFINITIONS.as_bytes(),
         Variables::new(rt.alloc()),
     );
-    let account = account_of(
-        rt.alloc(),
-        &[
-            (Line::BBSY, Level::High),
-            (Line::AS, Level::Low),
-            (Line::AS, Level::High),
-        ],
-    )?;
+    let opening = "AS=1 DS0=1 DS1=1 DTACK=1 BERR=1";
+    let account = account_of(rt.alloc(), opening, 0, "BBSY=1;AS=0;AS=1").ok_or("no account")?;
     let Ok((_, variables)) = definitions else {
         return Err(Fail::from("no definitions"));
     };
