@@ -1,106 +1,45 @@
 ghost use Rattle.std.specs.Prelude.{◌≡◌};
 
-use smallvec::SmallVec;
-use std::alloc::{AllocError, Global};
+use std::alloc::Global;
 use std::marker::Brand;
 use vme_bind::StepCollector;
 use vme_skew::{GhostSkew, SettlingVisitor, StepSettler};
-use vme_trace::{Change, Changes, LINE_COUNT, Level, Line, Lines, Step, StepVisitor};
+use vme_test_recordings::{opening_of, step_of};
+use vme_trace::{Lines, Step, StepVisitor};
 
-/// A time, and the numbers of the lines that change then, with their new levels.
-type Row = (u64, &'static [(u8, Level)]);
+/// A time, and the words of the lines that change then.
+type Row = (u64, &'static str);
 
-const AS: u8 = 0;
+const THREE_FALLS: [Row; 3] = [(10, "DTACK=0"), (13, "AS=0"), (15, "BBSY=0")];
 
-const DS0: u8 = 1;
-
-const DTACK: u8 = 3;
-
-const BBSY: u8 = 45;
-
-const D00: u8 = 159;
-
-const SYSRESET: u8 = 191;
-
-const LOW: Level = Level::Low;
-
-const HIGH: Level = Level::High;
-
-const UNKNOWN: Level = Level::Unknown;
-
-const THREE_FALLS: [Row; 3] = [
-    (10, &[(DTACK, LOW)]),
-    (13, &[(AS, LOW)]),
-    (15, &[(BBSY, LOW)]),
-];
-
-const ALL_AT_ONCE: [Row; 1] = [(10, &[(AS, LOW), (DTACK, LOW), (BBSY, LOW)])];
+const ALL_AT_ONCE: [Row; 1] = [(10, "AS=0 DTACK=0 BBSY=0")];
 
 /// The last times that there are.
-const LATEST: [Row; 2] = [(u64::MAX - 1, &[(DTACK, LOW)]), (u64::MAX, &[(AS, LOW)])];
+const LATEST: [Row; 2] = [(u64::MAX - 1, "DTACK=0"), (u64::MAX, "AS=0")];
 
 /// More lines fall at once than a step keeps without memory of its own, and rise one after the other.
 const MANY: [Row; 4] = [
-    (
-        3,
-        &[
-            (D00, LOW),
-            (D00 + 1, LOW),
-            (D00 + 2, LOW),
-            (D00 + 3, LOW),
-            (D00 + 4, LOW),
-        ],
-    ),
-    (
-        4,
-        &[
-            (AS, LOW),
-            (DS0, LOW),
-            (D00 + 5, LOW),
-            (D00 + 6, LOW),
-            (D00 + 7, LOW),
-            (D00 + 8, LOW),
-        ],
-    ),
-    (9, &[(DS0, HIGH)]),
-    (14, &[(AS, HIGH)]),
+    (3, "D00=0 D01=0 D02=0 D03=0 D04=0"),
+    (4, "AS=0 DS0=0 D05=0 D06=0 D07=0 D08=0"),
+    (9, "DS0=1"),
+    (14, "AS=1"),
 ];
 
 const MANY_AT_ONCE: [Row; 3] = [
     (
         3,
-        &[
-            (AS, LOW),
-            (DS0, LOW),
-            (D00, LOW),
-            (D00 + 1, LOW),
-            (D00 + 2, LOW),
-            (D00 + 3, LOW),
-            (D00 + 4, LOW),
-            (D00 + 5, LOW),
-            (D00 + 6, LOW),
-            (D00 + 7, LOW),
-            (D00 + 8, LOW),
-        ],
+        "AS=0 DS0=0 D00=0 D01=0 D02=0 D03=0 D04=0 D05=0 D06=0 D07=0 D08=0",
     ),
-    (9, &[(DS0, HIGH)]),
-    (14, &[(AS, HIGH)]),
+    (9, "DS0=1"),
+    (14, "AS=1"),
 ];
 
 /// Steps after an opening with each line high, a skew, and the steps to which they settle.
 static WORKED: [(&[Row], u64, &[Row]); 17] = [
     // a step that is exactly the skew later belongs to the group, whose lines come in their order
-    (
-        &THREE_FALLS,
-        3,
-        &[(10, &[(AS, LOW), (DTACK, LOW)]), (15, &[(BBSY, LOW)])],
-    ),
+    (&THREE_FALLS, 3, &[(10, "AS=0 DTACK=0"), (15, "BBSY=0")]),
     // a later step begins another group, from which the skew is counted anew
-    (
-        &THREE_FALLS,
-        2,
-        &[(10, &[(DTACK, LOW)]), (13, &[(AS, LOW), (BBSY, LOW)])],
-    ),
+    (&THREE_FALLS, 2, &[(10, "DTACK=0"), (13, "AS=0 BBSY=0")]),
     // a skew of 0 changes nothing
     (&THREE_FALLS, 0, &THREE_FALLS),
     (&MANY, 0, &MANY),
@@ -110,59 +49,52 @@ static WORKED: [(&[Row], u64, &[Row]); 17] = [
     (&THREE_FALLS, u64::MAX, &ALL_AT_ONCE),
     // a line that falls and rises within a group doesn't change
     (
-        &[(4, &[(AS, LOW)]), (5, &[(DS0, LOW)]), (6, &[(AS, HIGH)])],
+        &[(4, "AS=0"), (5, "DS0=0"), (6, "AS=1")],
         5,
-        &[(4, &[(DS0, LOW)])],
+        &[(4, "DS0=0")],
     ),
     // a line that falls, rises and falls within a group falls once
-    (
-        &[(4, &[(AS, LOW)]), (5, &[(AS, HIGH)]), (6, &[(AS, LOW)])],
-        5,
-        &[(4, &[(AS, LOW)])],
-    ),
+    (&[(4, "AS=0"), (5, "AS=1"), (6, "AS=0")], 5, &[(4, "AS=0")]),
     // a group that ends as it began makes no step, and the next one begins with the next step
     (
         &[
-            (0, &[(AS, LOW), (DS0, LOW)]),
-            (5, &[(AS, HIGH), (DS0, HIGH)]),
-            (6, &[(DTACK, LOW)]),
-            (12, &[(DTACK, HIGH)]),
+            (0, "AS=0 DS0=0"),
+            (5, "AS=1 DS0=1"),
+            (6, "DTACK=0"),
+            (12, "DTACK=1"),
         ],
         5,
-        &[(6, &[(DTACK, LOW)]), (12, &[(DTACK, HIGH)])],
+        &[(6, "DTACK=0"), (12, "DTACK=1")],
     ),
     // a recording that ends as it began may settle to no steps
-    (&[(7, &[(AS, LOW)]), (8, &[(AS, HIGH)])], 1, &[]),
+    (&[(7, "AS=0"), (8, "AS=1")], 1, &[]),
     // a reset and an unknown level that begin and end within a group are gone
     (
         &[
-            (0, &[(AS, UNKNOWN), (SYSRESET, LOW)]),
-            (1, &[(DS0, LOW)]),
-            (2, &[(SYSRESET, HIGH)]),
-            (3, &[(AS, LOW)]),
+            (0, "AS=x SYSRESET=0"),
+            (1, "DS0=0"),
+            (2, "SYSRESET=1"),
+            (3, "AS=0"),
         ],
         3,
-        &[(0, &[(AS, LOW), (DS0, LOW)])],
+        &[(0, "AS=0 DS0=0")],
     ),
     // a reset and an unknown level that last longer than the group stay
     (
         &[
-            (0, &[(DS0, LOW)]),
-            (1, &[(AS, UNKNOWN)]),
-            (2, &[(SYSRESET, LOW)]),
-            (9, &[(AS, HIGH), (SYSRESET, HIGH)]),
+            (0, "DS0=0"),
+            (1, "AS=x"),
+            (2, "SYSRESET=0"),
+            (9, "AS=1 SYSRESET=1"),
         ],
         3,
-        &[
-            (0, &[(AS, UNKNOWN), (DS0, LOW), (SYSRESET, LOW)]),
-            (9, &[(AS, HIGH), (SYSRESET, HIGH)]),
-        ],
+        &[(0, "AS=x DS0=0 SYSRESET=0"), (9, "AS=1 SYSRESET=1")],
     ),
     // no steps settle to no steps
     (&[], 3, &[]),
     // at the last times that there are
     (&LATEST, 0, &LATEST),
-    (&LATEST, 1, &[(u64::MAX - 1, &[(AS, LOW), (DTACK, LOW)])]),
+    (&LATEST, 1, &[(u64::MAX - 1, "AS=0 DTACK=0")]),
     // more lines than a step keeps without memory of its own
     (&MANY, 4, &MANY_AT_ONCE),
 ];
@@ -173,13 +105,9 @@ static LARGE: [(&[Row], &[Row]); 1] = [(&MANY, &MANY_AT_ONCE)];
 /// A skew and a time, and what is complete of the three falls once that time is reached.
 static TIMES: [(u64, u64, &[Row]); 6] = [
     // a time that is exactly the skew later than the start of a group doesn't end it
-    (3, 18, &[(10, &[(AS, LOW), (DTACK, LOW)])]),
+    (3, 18, &[(10, "AS=0 DTACK=0")]),
     // a time that is later by one more ends it
-    (
-        3,
-        19,
-        &[(10, &[(AS, LOW), (DTACK, LOW)]), (15, &[(BBSY, LOW)])],
-    ),
+    (3, 19, &[(10, "AS=0 DTACK=0"), (15, "BBSY=0")]),
     (5, 15, &[]),
     (5, 16, &ALL_AT_ONCE),
     // with a skew of 0 all is complete that is earlier
@@ -188,67 +116,34 @@ static TIMES: [(u64, u64, &[Row]); 6] = [
     (u64::MAX, u64::MAX, &[]),
 ];
 
-fn step((time, row): Row, alloc: Global) -> Result<Step, AllocError> {
-    let mut changes = SmallVec::new(alloc);
-    for (number, level) in row {
-        if let Some(line) = Line::from_number(*number) {
-            changes.push(Change {
-                line,
-                level: *level,
-            })?;
-        }
-    }
-    Ok(Step {
-        time,
-        changes: Changes::new(changes),
-    })
+/// The step of a row. `None` is want of memory.
+fn step(alloc: Global, row: Row) -> Option<Step> {
+    let (time, words) = row;
+    step_of(alloc, &Lines::new(1)?, time, words)
 }
 
 /// Every line of a backplane high.
-fn high_lines() -> Option<Lines> {
-    let mut lines = Lines::new(1)?;
-    for number in 0..LINE_COUNT {
-        let line = Line::from_number(number)?;
-        if lines.has(line) {
-            lines.set(line, Level::High);
-        }
-    }
-    Some(lines)
+fn high_lines(alloc: Global) -> Option<Lines> {
+    opening_of(alloc, 1, "high")
 }
 
-/// Whether the changes of a step are these.
-fn has_changes(step: &Step, row: &[(u8, Level)]) -> bool {
-    let changes = step.changes.as_slice();
-    if changes.len() != row.len() {
-        return false;
-    }
-    for (change, (number, level)) in changes.iter().zip(row) {
-        if change.line.number() != *number || change.level != *level {
-            return false;
+/// Whether these are the steps. `None` is want of memory.
+fn are_steps(alloc: Global, steps: &[Step], rows: &[Row]) -> Option<bool> {
+    for (found, row) in steps.iter().zip(rows) {
+        let wanted = step(alloc, *row)?;
+        if found.time != wanted.time || found.changes.as_slice() != wanted.changes.as_slice() {
+            return Some(false);
         }
     }
-    true
-}
-
-/// Whether these are the steps.
-fn are_steps(steps: &[Step], rows: &[Row]) -> bool {
-    if steps.len() != rows.len() {
-        return false;
-    }
-    for (step, (time, row)) in steps.iter().zip(rows) {
-        if step.time != *time || !has_changes(step, row) {
-            return false;
-        }
-    }
-    true
+    Some(steps.len() == rows.len())
 }
 
 /// Keeps a step that came out of a settler, if one did.
-fn keep(out: &mut Vec<Step>, settled: Option<Step>) -> Result<(), AllocError> {
+fn keep(out: &mut Vec<Step>, settled: Option<Step>) -> Option<()> {
     if let Some(step) = settled {
-        out.push(step)?;
+        out.push(step).ok()?;
     }
-    Ok(())
+    Some(())
 }
 
 /// Gives these steps to a settler, and keeps what comes out.
@@ -257,12 +152,12 @@ fn take_all(
     settler: &mut StepSettler,
     rows: &[Row],
     out: &mut Vec<Step>,
-) -> Result<(), AllocError> {
+) -> Option<()> {
     for row in rows {
-        let settled = settler.take(alloc, &step(*row, alloc)?)?;
+        let settled = settler.take(alloc, &step(alloc, *row)?).ok()?;
         keep(out, settled)?;
     }
-    Ok(())
+    Some(())
 }
 
 /// What comes out of a settler that takes these steps.
@@ -271,12 +166,12 @@ fn settled_as_they_come(
     opening: Lines,
     rows: &[Row],
     skew: u64,
-) -> Result<Vec<Step>, AllocError> {
+) -> Option<Vec<Step>> {
     let mut settler = StepSettler::new(alloc, opening, skew);
     let mut out = Vec::new(alloc);
     take_all(alloc, &mut settler, rows, &mut out)?;
-    keep(&mut out, settler.end(alloc)?)?;
-    Ok(out)
+    keep(&mut out, settler.end(alloc).ok()?)?;
+    Some(out)
 }
 
 /// What has come out of a settler that takes these steps, once a time is reached.
@@ -286,12 +181,12 @@ fn complete_at(
     rows: &[Row],
     skew: u64,
     time: u64,
-) -> Result<Vec<Step>, AllocError> {
+) -> Option<Vec<Step>> {
     let mut settler = StepSettler::new(alloc, opening, skew);
     let mut out = Vec::new(alloc);
     take_all(alloc, &mut settler, rows, &mut out)?;
-    keep(&mut out, settler.reach(alloc, time)?)?;
-    Ok(out)
+    keep(&mut out, settler.reach(alloc, time).ok()?)?;
+    Some(out)
 }
 
 /// What a visitor passes on of these steps, settled by a skew that is also a parameter of its type, and whether there
@@ -301,7 +196,7 @@ fn passed_on_by<K: GhostSkew>(
     opening: &Lines,
     rows: &[Row],
     skew: u64,
-) -> Result<(StepCollector, bool), AllocError>
+) -> Option<(StepCollector, bool)>
     requires { skew ≡ K.skew }
 {
     let low = Lines::new(2);
@@ -316,13 +211,13 @@ fn passed_on_by<K: GhostSkew>(
     let mut visitor: SettlingVisitor<K, StepCollector> = SettlingVisitor::new(
         alloc, first, skew, taker,
     );
-    visitor.step(alloc, step(LATEST[0], alloc)?)?;
+    visitor.step(alloc, step(alloc, LATEST[0])?).ok()?;
     visitor.open(opening);
     for row in rows {
-        visitor.step(alloc, step(*row, alloc)?)?;
+        visitor.step(alloc, step(alloc, *row)?).ok()?;
     }
     let is_too_long = visitor.is_too_long();
-    Ok((visitor.finish(alloc)?, is_too_long))
+    Some((visitor.finish(alloc).ok()?, is_too_long))
 }
 
 /// `passed_on_by`, with a type that stands for `skew`.
@@ -331,14 +226,14 @@ fn passed_on(
     opening: &Lines,
     rows: &[Row],
     skew: u64,
-) -> Result<(StepCollector, bool), AllocError> {
+) -> Option<(StepCollector, bool)> {
     passed_on_by::<Brand>(alloc, opening, rows, skew)
 }
 
 /// Whether these steps settle to `settled` as they come.
 fn settles_as_they_come(alloc: Global, rows: &[Row], skew: u64, settled: &[Row]) -> Option<bool> {
-    let out = settled_as_they_come(alloc, high_lines()?, rows, skew).ok()?;
-    Some(are_steps(&out, settled))
+    let out = settled_as_they_come(alloc, high_lines(alloc)?, rows, skew)?;
+    are_steps(alloc, &out, settled)
 }
 
 #[test]
@@ -351,9 +246,10 @@ fn steps_settle_as_they_come(rt: HostRuntime) {
 
 /// Whether a visitor passes on `settled` of these steps, and they aren't too many.
 fn passes_on(alloc: Global, rows: &[Row], skew: u64, settled: &[Row]) -> Option<bool> {
-    let opening = high_lines()?;
-    let (taken, is_too_long) = passed_on(alloc, &opening, rows, skew).ok()?;
-    Some(taken.opening == opening && are_steps(&taken.steps, settled) && !is_too_long)
+    let opening = high_lines(alloc)?;
+    let (taken, is_too_long) = passed_on(alloc, &opening, rows, skew)?;
+    let is_settled = are_steps(alloc, &taken.steps, settled)?;
+    Some(taken.opening == opening && is_settled && !is_too_long)
 }
 
 #[test]
@@ -366,8 +262,8 @@ fn settled_steps_are_passed_on(rt: HostRuntime) {
 
 /// Whether `complete` is what is complete of the three falls once `time` is reached.
 fn is_complete(alloc: Global, skew: u64, time: u64, complete: &[Row]) -> Option<bool> {
-    let out = complete_at(alloc, high_lines()?, &THREE_FALLS, skew, time).ok()?;
-    Some(are_steps(&out, complete))
+    let out = complete_at(alloc, high_lines(alloc)?, &THREE_FALLS, skew, time)?;
+    are_steps(alloc, &out, complete)
 }
 
 #[test]
@@ -390,18 +286,8 @@ fn what_is_settled_stays(rt: HostRuntime) {
 /// Whether these steps settle to `settled` by a skew of 4, as they come and as they are passed on, unless memory runs
 /// out.
 fn settles_if_memory_suffices(alloc: Global, rows: &[Row], settled: &[Row]) -> bool {
-    let Some(opening) = high_lines() else {
-        return true;
-    };
-    let comes = match settled_as_they_come(alloc, opening, rows, 4) {
-        Ok(out) => are_steps(&out, settled),
-        Err(_) => true,
-    };
-    comes
-        && match passed_on(alloc, &opening, rows, 4) {
-            Ok((taken, _)) => are_steps(&taken.steps, settled),
-            Err(_) => true,
-        }
+    settles_as_they_come(alloc, rows, 4, settled).unwrap_or(true)
+        && passes_on(alloc, rows, 4, settled).unwrap_or(true)
 }
 
 /// `tests/memory/run` refuses each allocation in turn: then the error is want of memory, and else the steps are
