@@ -63,14 +63,20 @@ fn put_times(out: &mut Vec<u8>, times: [u64; 3]) -> Result<(), AllocError> {
     Ok(())
 }
 
-/// Adds a table of a part without marks, in which each run stays in its memory (state).
-fn put_unchanged_table(out: &mut Vec<u8>, memories: u8) -> Result<(), AllocError> {
+/// Adds an entry for each memory (state) of a table: a run stays in its memory, and then come the bytes `rest`.
+fn put_entries(out: &mut Vec<u8>, memories: u8, rest: &[u8]) -> Result<(), AllocError> {
     for next in 0..memories {
         if next != ENDED {
-            out.extend_from_slice(&[next, 0])?;
+            out.push(next)?;
+            out.extend_from_slice(rest)?;
         }
     }
     Ok(())
+}
+
+/// Adds a table of a part without marks, in which each run stays in its memory.
+fn put_unchanged_table(out: &mut Vec<u8>, memories: u8) -> Result<(), AllocError> {
+    put_entries(out, memories, &[0])
 }
 
 /// Adds a table of a part without marks, in which each run stays in its memory, and breaks I5 on SYSRESET*.
@@ -88,12 +94,7 @@ fn put_broken_table(out: &mut Vec<u8>, memories: u8) -> Result<(), AllocError> {
 /// Adds a table of a part with marks: it has no marks, and each run stays in its memory.
 fn put_unchanged_table_with_marks(out: &mut Vec<u8>, memories: u8) -> Result<(), AllocError> {
     out.extend_from_slice(&[0, 0, 0, 0])?;
-    for next in 0..memories {
-        if next != ENDED {
-            out.extend_from_slice(&[next, 0, 0, 0, 0])?;
-        }
-    }
-    Ok(())
+    put_entries(out, memories, &[0, 0, 0, 0])
 }
 
 /// How many marks `MARKS` has.
@@ -400,14 +401,22 @@ fn a_changed_byte_is_damage(rt: HostRuntime) -> Result<(), Fail> {
     Ok(())
 }
 
+/// The bytes that are written for the part in `bytes`.
+fn rewritten(alloc: Global, bytes: &[u8]) -> Result<Vec<u8>, ReadError> {
+    match read_part(alloc, bytes) {
+        Ok(part) => match write_part(alloc, &part) {
+            Ok(written) => Ok(written),
+            Err(_) => Err(ReadError::Memory),
+        },
+        Err(error) => Err(error),
+    }
+}
+
 /// Asserts that the bytes with their sum are read and written as the same bytes, or refused at a place before the sum.
 fn expect_exact(rt: &impl Abort, alloc: Global, bytes: &[u8]) -> Result<(), Fail> {
     let whole = with_sum(alloc, bytes)?;
-    match read_part(alloc, whole.as_slice()) {
-        Ok(part) => {
-            let written = write_part(alloc, &part)?;
-            assert_eq!(rt; written.as_slice(), whole.as_slice());
-        }
+    match rewritten(alloc, whole.as_slice()) {
+        Ok(written) => assert_eq!(rt; written.as_slice(), whole.as_slice()),
         Err(ReadError::Fault(fault)) => {
             assert!(rt; fault.kind != PartFaultKind::Damaged);
             assert!(rt; fault.place <= bytes.len());
@@ -472,17 +481,6 @@ fn faults_have_their_places(rt: HostRuntime) -> Result<(), Fail> {
         assert_eq!(rt; fault, PartFault { kind, place: at });
     }
     Ok(())
-}
-
-/// The bytes that are written for the part in `bytes`.
-fn rewritten(alloc: Global, bytes: &[u8]) -> Result<Vec<u8>, ReadError> {
-    match read_part(alloc, bytes) {
-        Ok(part) => match write_part(alloc, &part) {
-            Ok(written) => Ok(written),
-            Err(_) => Err(ReadError::Memory),
-        },
-        Err(error) => Err(error),
-    }
 }
 
 /// `rewritten`, tried once more if memory is refused at first.
