@@ -1,20 +1,13 @@
-use smallvec::SmallVec;
-use std::alloc::{AllocError, Global};
+use std::alloc::Global;
+use vme_test_recordings::{DUMPED, DUMPED_READ, capture_of, opening_of, push_steps, step_of};
 use vme_trace::{
-    Block, Capture, Change, Changes, Class, CutFault, LINE_COUNT, Level, Line, LineSet, Lines,
-    Rule, Step, Steps, am_class, am_code, is_selected, needed,
+    Block, Capture, Class, CutFault, LINE_COUNT, Level, Line, LineSet, Lines, Rule, Step, Steps,
+    am_class, am_code, is_selected, needed,
 };
-
-/// The numbers of the lines that change at a time, with their new levels.
-type Row = (u64, &'static [(u8, Level)]);
 
 const AS: u8 = 0;
 
-const DS0: u8 = 1;
-
 const DS1: u8 = 2;
-
-const DTACK: u8 = 3;
 
 const BERR: u8 = 4;
 
@@ -22,57 +15,11 @@ const IACK: u8 = 5;
 
 const IACK_1: u8 = 138;
 
-const IACK_2: u8 = 139;
-
 const LOW: Level = Level::Low;
 
 const HIGH: Level = Level::High;
 
 const UNKNOWN: Level = Level::Unknown;
-
-fn step((time, row): Row, alloc: Global) -> Result<Step, AllocError> {
-    let mut changes = SmallVec::new(alloc);
-    for (number, level) in row {
-        if let Some(line) = Line::from_number(*number) {
-            changes.push(Change {
-                line,
-                level: *level,
-            })?;
-        }
-    }
-    Ok(Step {
-        time,
-        changes: Changes::new(changes),
-    })
-}
-
-/// The bus becomes idle, and a read follows.
-static READ: [Row; 6] = [
-    (
-        0,
-        &[
-            (AS, HIGH),
-            (DS0, HIGH),
-            (DS1, HIGH),
-            (DTACK, HIGH),
-            (BERR, HIGH),
-            (IACK, HIGH),
-        ],
-    ),
-    (10, &[(AS, LOW)]),
-    (20, &[(DS0, LOW)]),
-    (30, &[(DTACK, LOW)]),
-    (40, &[(AS, HIGH), (DS0, HIGH)]),
-    (50, &[(DTACK, HIGH)]),
-];
-
-fn read_steps(alloc: Global) -> Result<Vec<Step>, AllocError> {
-    let mut steps = Vec::new(alloc);
-    for row in READ.iter() {
-        steps.push(step(*row, alloc)?)?;
-    }
-    Ok(steps)
-}
 
 /// Gives a line a level, if the line is on the backplane.
 fn put(lines: &mut Lines, number: u8, level: Level) {
@@ -83,30 +30,23 @@ fn put(lines: &mut Lines, number: u8, level: Level) {
     }
 }
 
-/// A backplane whose lines from a number on are high.
-fn high_from(first: u8, slots: u8) -> Option<Lines> {
+/// Every line of a backplane high.
+fn high_lines(slots: u8) -> Option<Lines> {
     let mut lines = Lines::new(slots)?;
-    for number in first..LINE_COUNT {
+    for number in 0..LINE_COUNT {
         put(&mut lines, number, Level::High);
     }
     Some(lines)
 }
 
 /// One slot: the first six lines unknown, the address modifier 3D, the bus busy, all else high.
-fn dump_lines() -> Option<Lines> {
-    let mut lines = high_from(6, 1)?;
-    lines.set(Line::address_modifier(1), Level::Low);
-    lines.set(Line::BBSY, Level::Low);
-    Some(lines)
-}
-
-/// Every line of a backplane high.
-fn high_lines(slots: u8) -> Option<Lines> {
-    high_from(0, slots)
+fn dump_lines(alloc: Global) -> Option<Lines> {
+    let start = DUMPED;
+    opening_of(alloc, start.slots, start.opening)
 }
 
 fn read_capture(alloc: Global) -> Option<Capture> {
-    Capture::new(dump_lines()?, read_steps(alloc).ok()?).ok()
+    capture_of(alloc, DUMPED, DUMPED_READ)
 }
 
 /// Whether a line has a number and a name, and is found by both.
@@ -431,23 +371,24 @@ fn acknowledge_class(rt: HostRuntime) {
     assert!(rt; class_of_unknown_code(Level::Low) == Some((Class::I, false, 3)));
 }
 
-/// A step after those of the read, and whether it is malformed there.
-static BEHIND: [(Row, bool); 8] = [
-    ((60, &[(AS, LOW)]), false),
-    ((50, &[(AS, LOW)]), true),
-    ((60, &[]), true),
-    ((60, &[(AS, HIGH)]), true),
-    ((60, &[(DS0, LOW), (AS, LOW)]), true),
-    ((60, &[(AS, LOW), (AS, HIGH)]), true),
-    ((60, &[(AS, LOW), (IACK_2, LOW)]), true),
-    ((60, &[(AS, LOW), (IACK_1, LOW)]), false),
+/// A step after those of the read, its time and its words, and whether it is malformed there.
+static BEHIND: [(u64, &str, bool); 8] = [
+    (60, "AS=0", false),
+    (50, "AS=0", true),
+    (60, "", true),
+    (60, "AS=1", true),
+    (60, "DS0=0 AS=0", true),
+    (60, "AS=0 AS=1", true),
+    (60, "AS=0 IA.2=0", true),
+    (60, "AS=0 IA.1=0", false),
 ];
 
 /// The steps of the read, and one after them.
-fn read_and(row: Row, alloc: Global) -> Result<Vec<Step>, AllocError> {
-    let mut steps = read_steps(alloc)?;
-    steps.push(step(row, alloc)?)?;
-    Ok(steps)
+fn read_and(alloc: Global, lines: &Lines, time: u64, words: &str) -> Option<Vec<Step>> {
+    let mut steps = Vec::new(alloc);
+    push_steps(alloc, &mut steps, lines, DUMPED_READ)?;
+    steps.push(step_of(alloc, lines, time, words)?).ok()?;
+    Some(steps)
 }
 
 /// Which step is named as malformed, by a block and by a capture.
@@ -464,16 +405,22 @@ fn malformed_in(opening: Lines, steps: Vec<Step>) -> (Option<usize>, Option<usiz
     }
 }
 
-/// Which step is named as malformed, by a block and by a capture, where the step `row` follows those of the read.
-fn malformed_behind(row: Row, alloc: Global) -> Option<(Option<usize>, Option<usize>)> {
-    Some(malformed_in(dump_lines()?, read_and(row, alloc).ok()?))
+/// Which step is named as malformed, by a block and by a capture, where the step of `words` follows those of the read.
+fn malformed_behind(
+    alloc: Global,
+    time: u64,
+    words: &str,
+) -> Option<(Option<usize>, Option<usize>)> {
+    let opening = dump_lines(alloc)?;
+    let steps = read_and(alloc, &opening, time, words)?;
+    Some(malformed_in(opening, steps))
 }
 
 #[test]
 fn malformed_steps(rt: HostRuntime) {
-    for (row, is_malformed) in BEHIND.iter() {
+    for (time, words, is_malformed) in BEHIND.iter() {
         let wrong = if *is_malformed { Some(6) } else { None };
-        assert!(rt; malformed_behind(*row, rt.alloc()) == Some((wrong, wrong)));
+        assert!(rt; malformed_behind(rt.alloc(), *time, words) == Some((wrong, wrong)));
     }
 }
 
@@ -529,27 +476,15 @@ fn blocks_of_a_read(rt: HostRuntime) {
     assert!(rt; is_read_cut(rt.alloc()) == Some(true));
 }
 
-/// A step at which AS falls at an odd time, and rises at an even one.
-fn toggle(alloc: Global, time: u64) -> Result<Step, AllocError> {
-    let mut changes = SmallVec::new(alloc);
-    let level = if time % 2 == 0 { HIGH } else { LOW };
-    changes.push(Change {
-        line: Line::AS,
-        level,
-    })?;
-    Ok(Step {
-        time,
-        changes: Changes::new(changes),
-    })
-}
-
 /// A recording of `count` steps, at which AS rises and falls in turn.
 fn toggles(alloc: Global, count: u64) -> Option<Capture> {
+    let opening = dump_lines(alloc)?;
     let mut steps = Vec::new(alloc);
     for time in 0..count {
-        steps.push(toggle(alloc, time).ok()?).ok()?;
+        let words = if time % 2 == 0 { "AS=1" } else { "AS=0" };
+        steps.push(step_of(alloc, &opening, time, words)?).ok()?;
     }
-    Capture::new(dump_lines()?, steps).ok()
+    Capture::new(opening, steps).ok()
 }
 
 /// How many blocks of `size` steps a recording of `count` steps is cut into, or why it isn't cut.
@@ -635,23 +570,17 @@ fn are_singles_or_refused(alloc: Global, capture: &Capture) -> bool {
 }
 
 /// Whether cuts and copies of the read are right, or memory is refused.
-fn is_cut_right_or_refused(alloc: Global, steps: Vec<Step>) -> bool {
-    let Some(lines) = dump_lines() else {
-        return false;
-    };
-    match Capture::new(lines, steps) {
-        Ok(capture) => {
+fn is_cut_right_or_refused(alloc: Global) -> bool {
+    match read_capture(alloc) {
+        Some(capture) => {
             is_cut_or_refused(alloc, &capture, 4, 2) && are_singles_or_refused(alloc, &capture)
         }
-        Err(_) => false,
+        None => true,
     }
 }
 
 /// Where memory is refused, a cut and a copy say so, and nothing else. (Run with each allocation refused in turn.)
 #[test]
 fn refused_memory(rt: HostRuntime) {
-    let alloc = rt.alloc();
-    if let Ok(steps) = read_steps(alloc) {
-        assert!(rt; is_cut_right_or_refused(alloc, steps));
-    }
+    assert!(rt; is_cut_right_or_refused(rt.alloc()));
 }
