@@ -145,6 +145,19 @@ pub(crate) fn leaves_worked(alloc: Global, board: Board, bench: Bench, others: u
     }
 }
 
+/// The answer to a delivery. Of the bench its callers know only that it stays one of the board's.
+pub(crate) fn delivered(
+    alloc: Global,
+    board: &Board,
+    bench: &mut Bench,
+    block: Block,
+) -> Result<Filed, Refused>
+    requires { IsOf bench.old board.now }
+    ensures { IsOf bench.new board.now }
+{
+    bench.deliver(alloc, board, block)
+}
+
 /// Delivers the blocks, from the last to the first, by the two benches in turn.
 fn deliver_in_turn(
     rt: &impl Abort,
@@ -160,9 +173,9 @@ fn deliver_in_turn(
     for block in blocks.into_iter().rev() {
         let number = block.number;
         let answer = if number % 2 == 0 {
-            first.deliver(alloc, board, block)
+            delivered(alloc, board, first, block)
         } else {
-            second.deliver(alloc, board, block)
+            delivered(alloc, board, second, block)
         };
         assert!(rt; is_filed(&answer, number));
     }
@@ -200,14 +213,22 @@ fn is_no_board(alloc: Global, total: u32, draws: u32, fault: BoardFault) -> bool
     }
 }
 
+/// The number that the bench draws. Of the bench its callers know only that it stays one of the board's.
+fn drawn(board: &Board, bench: &mut Bench) -> Option<u32>
+    requires { IsOf bench.old board.now }
+    ensures { IsOf bench.new board.now }
+{
+    bench.draw(board)
+}
+
 /// Whether the bench wins the draws 0, 1 and 2, and then none.
 fn draws_three(board: &Board, bench: &mut Bench) -> bool
     requires { IsOf bench.old board.now }
 {
-    bench.draw(board) == Some(0)
-        && bench.draw(board) == Some(1)
-        && bench.draw(board) == Some(2)
-        && bench.draw(board).is_none()
+    drawn(board, bench) == Some(0)
+        && drawn(board, bench) == Some(1)
+        && drawn(board, bench) == Some(2)
+        && drawn(board, bench).is_none()
 }
 
 #[test]
@@ -228,8 +249,8 @@ fn win_different_draws(board: &Board, first: &mut Bench, second: &mut Bench) -> 
     requires { IsOf first.old board.now × IsOf second.old board.now }
     ensures { IsOf first.new board.now × IsOf second.new board.now }
 {
-    let (least, next) = (first.draw(board), second.draw(board));
-    let (third, last) = (second.draw(board), first.draw(board));
+    let (least, next) = (drawn(board, first), drawn(board, second));
+    let (third, last) = (drawn(board, second), drawn(board, first));
     least == Some(0) && next == Some(1) && third == Some(2) && last == Some(3)
 }
 
@@ -257,7 +278,9 @@ fn refuses(
     ensures { IsOf bench.new board.now }
 {
     match (block, same) {
-        (Some(block), Some(same)) => { is_refused(&bench.deliver(alloc, board, block), why, &same) }
+        (Some(block), Some(same)) => {
+            is_refused(&delivered(alloc, board, bench, block), why, &same)
+        }
         _ => false,
     }
 }
@@ -268,7 +291,7 @@ fn files(alloc: Global, board: &Board, bench: &mut Bench, number: u32, block: Op
     ensures { IsOf bench.new board.now }
 {
     match block {
-        Some(block) => is_filed(&bench.deliver(alloc, board, block), number),
+        Some(block) => is_filed(&delivered(alloc, board, bench, block), number),
         None => false,
     }
 }
@@ -375,7 +398,7 @@ fn is_filed_at_last(
     requires { IsOf bench.old board.now × (total_of board.now ≡ 14) }
     ensures { IsOf bench.new board.now }
 {
-    match bench.deliver(alloc, board, block) {
+    match delivered(alloc, board, bench, block) {
         Err(
             Refused {
                 why: DeliveryRefusal::Memory,
@@ -384,7 +407,7 @@ fn is_filed_at_last(
         ) => {
             is_equal(&block, same)
                 && bench.look(board, 5) == Stage::Free
-                && is_filed(&bench.deliver(alloc, board, block), 5)
+                && is_filed(&delivered(alloc, board, bench, block), 5)
         }
         answer => is_filed(&answer, 5),
     }

@@ -2,7 +2,7 @@ ghost use Rattle.std.specs.Prelude.{◌≡◌, ◌<◌, ◌≤◌, ℕ, ◌+◌,
 ghost use Rattle.vme_board.specs.Benches.{IsOf, total_of};
 
 use crate::tests::{
-    block_of, blocks_of_read, board_of, is_filed, is_five, is_refused, leaves_worked,
+    block_of, blocks_of_read, board_of, delivered, is_filed, is_five, is_refused, leaves_worked,
     malformed_block,
 };
 use std::alloc::Global;
@@ -24,7 +24,7 @@ fn deliver_half(alloc: Global, board: &Board, bench: Bench, blocks: Vec<Block>) 
     let mut all_filed = true;
     for block in blocks.into_iter().rev() {
         let number = block.number;
-        all_filed = is_filed(&bench.deliver(alloc, board, block), number) && all_filed;
+        all_filed = is_filed(&delivered(alloc, board, &mut bench, block), number) && all_filed;
     }
     (bench, all_filed)
 }
@@ -372,7 +372,7 @@ fn deliver_range(alloc: Global, board: &Board, bench: Bench, thread: u8) -> Work
         ) else {
             continue;
         };
-        let answer = work.bench.deliver(alloc, board, block);
+        let answer = delivered(alloc, board, &mut work.bench, block);
         if is_filed(&answer, number) {
             work.filed = work.filed.wrapping_add(1);
         } else if is_refused(&answer, DeliveryRefusal::Doubled, &same) {
@@ -409,18 +409,18 @@ fn deliver_hostile(alloc: Global, board: &Board, bench: Bench, thread: u8) -> Wo
             continue;
         };
         if is_refused_for(
-            &work.bench.deliver(alloc, board, stranger),
+            &delivered(alloc, board, &mut work.bench, stranger),
             DeliveryRefusal::Stranger,
         ) {
             work.hostile = work.hostile.wrapping_add(1);
         }
         if is_refused_for(
-            &work.bench.deliver(alloc, board, malformed),
+            &delivered(alloc, board, &mut work.bench, malformed),
             DeliveryRefusal::Malformed { step: 0 },
         ) {
             work.hostile = work.hostile.wrapping_add(1);
         }
-        match work.bench.deliver(alloc, board, block) {
+        match delivered(alloc, board, &mut work.bench, block) {
             Ok(_) => work.filed = work.filed.wrapping_add(1),
             Err(_) => work.doubled = work.doubled.wrapping_add(1),
         }
