@@ -353,89 +353,88 @@ fn empty_block(alloc: Global, number: u32, thread: u8) -> Option<Block> {
     })
 }
 
-/// Delivers 1,024 blocks from a number on, modulo the board's 4,096, and counts the answers.
-fn deliver_range(alloc: Global, board: &Board, bench: Bench, thread: u8) -> Work
-    requires { IsOf bench board.now }
-    ensures { IsOf result.bench board.now }
+/// Delivers the block with the number that is `place` behind a thread's first one, modulo the board's 4,096, and counts
+/// the answer.
+fn deliver_in_range(alloc: Global, board: &Board, work: &mut Work, thread: u8, place: u32)
+    requires { IsOf work.old.bench board.now }
+    ensures { IsOf work.new.bench board.now }
 {
-    let mut work = Work {
-        bench,
-        filed: 0,
-        doubled: 0,
-        hostile: 0,
+    let number = u32::from(thread).wrapping_mul(512).wrapping_add(place) % 4096;
+    let (Some(block), Some(same)) = (
+        empty_block(alloc, number, thread),
+        empty_block(alloc, number, thread),
+    ) else {
+        return;
     };
-    for k in 0..1024u32 {
-        let number = u32::from(thread).wrapping_mul(512).wrapping_add(k) % 4096;
-        let (Some(block), Some(same)) = (
-            empty_block(alloc, number, thread),
-            empty_block(alloc, number, thread),
-        ) else {
-            continue;
-        };
-        let answer = delivered(alloc, board, &mut work.bench, block);
-        if is_filed(&answer, number) {
-            work.filed = work.filed.wrapping_add(1);
-        } else if is_refused(&answer, DeliveryRefusal::Doubled, &same) {
-            work.doubled = work.doubled.wrapping_add(1);
-        }
-    }
-    work
-}
-
-fn is_refused_for(answer: &Result<Filed, Refused>, why: DeliveryRefusal) -> bool {
-    match answer {
-        Ok(_) => false,
-        Err(refused) => refused.why == why,
+    let answer = delivered(alloc, board, &mut work.bench, block);
+    if is_filed(&answer, number) {
+        work.filed = work.filed.wrapping_add(1);
+    } else if is_refused(&answer, DeliveryRefusal::Doubled, &same) {
+        work.doubled = work.doubled.wrapping_add(1);
     }
 }
 
-/// Delivers a block out of range, a malformed block and a block of each number below 14, and counts the answers.
-fn deliver_hostile(alloc: Global, board: &Board, bench: Bench, thread: u8) -> Work
-    requires { IsOf bench board.now }
-    ensures { IsOf result.bench board.now }
+/// Delivers a block that may not be filed, and counts it if it is refused for the reason `why`.
+fn deliver_refused(
+    alloc: Global,
+    board: &Board,
+    work: &mut Work,
+    block: Option<Block>,
+    why: DeliveryRefusal,
+)
+    requires { IsOf work.old.bench board.now }
+    ensures { IsOf work.new.bench board.now }
 {
-    let mut work = Work {
-        bench,
-        filed: 0,
-        doubled: 0,
-        hostile: 0,
+    let Some(block) = block else {
+        return;
     };
-    for number in 0..14u32 {
-        let (Some(stranger), Some(malformed), Some(block)) = (
-            block_of(alloc, number + 14, 0, 1),
-            malformed_block(alloc, number, 2),
-            empty_block(alloc, number, thread),
-        ) else {
-            continue;
-        };
-        if is_refused_for(
-            &delivered(alloc, board, &mut work.bench, stranger),
-            DeliveryRefusal::Stranger,
-        ) {
+    if let Err(refused) = delivered(alloc, board, &mut work.bench, block) {
+        if refused.why == why {
             work.hostile = work.hostile.wrapping_add(1);
         }
-        if is_refused_for(
-            &delivered(alloc, board, &mut work.bench, malformed),
-            DeliveryRefusal::Malformed { step: 0 },
-        ) {
-            work.hostile = work.hostile.wrapping_add(1);
-        }
+    }
+}
+
+/// Delivers a block out of range, a malformed block and a block of the number `number`, and counts the answers.
+fn deliver_hostile(alloc: Global, board: &Board, work: &mut Work, thread: u8, number: u32)
+    requires { IsOf work.old.bench board.now }
+    ensures { IsOf work.new.bench board.now }
+{
+    let stranger = block_of(alloc, number.saturating_add(14), 0, 1);
+    deliver_refused(alloc, board, work, stranger, DeliveryRefusal::Stranger);
+    let malformed = malformed_block(alloc, number, 2);
+    let why = DeliveryRefusal::Malformed { step: 0 };
+    deliver_refused(alloc, board, work, malformed, why);
+    if let Some(block) = empty_block(alloc, number, thread) {
         match delivered(alloc, board, &mut work.bench, block) {
             Ok(_) => work.filed = work.filed.wrapping_add(1),
             Err(_) => work.doubled = work.doubled.wrapping_add(1),
         }
     }
-    work
 }
 
+/// Delivers a share by a bench: 1,024 blocks, or three of each number below 14.
 fn deliver_share(alloc: Global, board: &Board, bench: Bench, thread: u8, share: Share) -> Work
     requires { IsOf bench board.now }
     ensures { IsOf result.bench board.now }
 {
-    match share {
-        Share::Range => deliver_range(alloc, board, bench, thread),
-        Share::Hostile => deliver_hostile(alloc, board, bench, thread),
+    let mut work = Work {
+        bench,
+        filed: 0,
+        doubled: 0,
+        hostile: 0,
+    };
+    let count = match share {
+        Share::Range => 1024u32,
+        Share::Hostile => 14,
+    };
+    for k in 0..count {
+        match share {
+            Share::Range => deliver_in_range(alloc, board, &mut work, thread, k),
+            Share::Hostile => deliver_hostile(alloc, board, &mut work, thread, k),
+        }
     }
+    work
 }
 
 /// Eight benches on eight threads deliver a share each.
