@@ -6,7 +6,7 @@ use std::process::Abort;
 use vme_book::{Book, BookFault, CloseFault, InsertFault, Whole};
 use vme_listing::{Listing, read_listing};
 use vme_summary::{Judged, Span, judge_block};
-use vme_test_recordings::{GRANTED, READ, GRANTED_READ_LISTING, capture_of, push_steps, step_of};
+use vme_test_recordings::{GRANTED, GRANTED_READ_LISTING, READ, capture_of, push_steps, step_of};
 use vme_trace::{Block, Break, Capture, Line, Lines, Rule, Steps, Verdict};
 
 /// The read in single steps.

@@ -195,7 +195,15 @@ fn assert_listed<R: Threads + Wait + Abort + Sync>(
 fn workers_change_nothing(rt: HostRuntime) -> Result<(), Fail> {
     let blocks = read_blocks(rt.alloc(), 1).ok_or("no blocks")?;
     for workers in [1, 2, 64] {
-        assert_listed(&rt, rt.alloc(), &blocks, 14, workers, 14, GRANTED_READ_LISTING);
+        assert_listed(
+            &rt,
+            rt.alloc(),
+            &blocks,
+            14,
+            workers,
+            14,
+            GRANTED_READ_LISTING,
+        );
     }
     Ok(())
 }
