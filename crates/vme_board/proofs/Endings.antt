@@ -24,7 +24,7 @@ use Rattle.vme_core.proofs.SumsBelow.{sum_below-plus, sum_below-agree, sum_below
 use Rattle.vme_core.proofs.InvariantSteps.{own_draws, own_claims, own_takes, whole_listed, whole_taken, unlisted}
 use Rattle.vme_core.proofs.InvariantSteps.{is_taken, list_length_bound, takes_length_bound, all_listed, all_taken}
 use Rattle.vme_core.proofs.InvariantSteps.{content-one}
-use Rattle.vme_board.specs.Words.{bit_of, Homes, IsEmpty, IsFilled, Holds, kept}
+use Rattle.vme_board.specs.Words.{AreKept, bit_of, Homes, IsEmpty, IsFilled, Holds, kept}
 use Rattle.vme_board.specs.Contents.{DidAll, HasBlock, filled_bit, filled_at, filled_count}
 use Rattle.vme_board.proofs.Bits.{bit_of-at_most_one}
 
@@ -85,16 +85,26 @@ kept-none : (f t : ℕ) (xs : List (Option Block)) (n : ℕ) → (f ≡ 0) ⊎ (
 kept-none f t xs n (inl e) = ap (λ (y : ℕ). kept y t xs n) e
 kept-none f t xs n (inr e) = ap (λ (y : ℕ). kept f y xs n) e ∙ cond-none (f == 1)
 
-module _ (width id : ℕ) (v : View) (ws : List ℕ) (xs items : List (Option Block)) (total : ℕ) (long : length xs ≡ total)
-    (fin : Final (Seen (Holds width) id v) ws xs)
-    (each : (n : ℕ) → n < total → slice_get items n ≡ Some (kept (bit_of 1 ws n) (bit_of 2 ws n) xs n)) where
+-- a board of `total` numbers is closed: `items` has what is kept of its words `ws` and slots `xs`, which are those of
+-- the last state of its table, in which the bench `id`, which closes it, has the view v
+pub record IsClosed (width id : ℕ) (v : View) (ws : List ℕ) (xs items : List (Option Block)) (total : ℕ) : Type 0 where
+  pub long : length xs ≡ total
+  pub last : Final (Seen (Holds width) id v) ws xs
+  pub each : AreKept ws xs total items
+
+module _ {width id : ℕ} {v : View} {ws : List ℕ} {xs items : List (Option Block)} {total : ℕ}
+    (closed : IsClosed width id v ws xs items total) where
   -- the slots of the last state
   abbrev homes : Homes
-  homes = fin.0.homes
+  homes = closed.last.0.homes
+
+  -- the views of the benches in the last state
+  abbrev views : List View
+  views = closed.last.0.views
 
   -- the contents of the last state
   abbrev K : ℕ → Option Block
-  K = fin.1.0.1.0
+  K = closed.last.1.0.1.0
 
   -- the bit `filed` of a number
   abbrev F : ℕ → ℕ
@@ -105,26 +115,27 @@ module _ (width id : ℕ) (v : View) (ws : List ℕ) (xs items : List (Option Bl
   T = bit_of 2 ws
 
   -- the invariant of the last state
-  r : BoardInvariant total (bit_of 3 ws) (bit_of 0 ws) F T K (IsEmpty homes) (IsFilled homes) fin.0.views
+  r : BoardInvariant total (bit_of 3 ws) (bit_of 0 ws) F T K (IsEmpty homes) (IsFilled homes) views
   r = subst (λ (z : ℕ × List ℕ). BoardInvariant z.0 (bit_of 3 z.1) (bit_of 0 z.1) (bit_of 1 z.1) (bit_of 2 z.1) K
-      (IsEmpty homes) (IsFilled homes) fin.0.views) (λ i. ((fin.3 ∙ long) i, fin.2 i)) fin.1.0.1.1
+      (IsEmpty homes) (IsFilled homes) views)
+      (λ i. ((closed.last.3 ∙ closed.long) i, closed.last.2 i)) closed.last.1.0.1.1
 
   -- the bench that closes the board has the view v in the last state
-  get_elem-own_view : get_elem? fin.0.views id ≡ some v
-  get_elem-own_view = fin.1.1
+  get_elem-own_view : get_elem? views id ≡ some v
+  get_elem-own_view = closed.last.1.1
 
   -- the place of a number that is filed and not taken has its content; any other place has no block (`place-no_block`)
   place-untaken : (n : ℕ) (b : Block) → n < total → F n ≡ 1 → T n ≡ 0 → K n ≡ Some b → slice_get items n ≡ Some (Some b)
   place-untaken n b low f t k =
       let w = r.contents.filed_is_stored n f t in let same : w.0 ≡ b = content-one (K n) w.0 b w.1 k in
-      let there : get_elem? xs n ≡ some (Some w.0) = fin.4 n (Some w.0) w.2 in
-      each n low ∙ ap (λ (o : Option Block). Some o) (ap (λ (y : ℕ). kept y (T n) xs n) f
+      let there : get_elem? xs n ≡ some (Some w.0) = closed.last.4 n (Some w.0) w.2 in
+      closed.each n low ∙ ap (λ (o : Option Block). Some o) (ap (λ (y : ℕ). kept y (T n) xs n) f
       ∙ (ap (λ (y : ℕ). kept 1 y xs n) t ∙ (get_elem-get_or xs n (Some w.0) None there
       ∙ ap (λ (y : Block). Some y) same)))
 
   -- the place of a number that isn't filed, or is taken, has no block
   place-no_block : (n : ℕ) → n < total → (F n ≡ 0) ⊎ (T n ≡ 1) → slice_get items n ≡ Some None
-  place-no_block n low h = each n low ∙ ap (λ (o : Option Block). Some o) (kept-none (F n) (T n) xs n h)
+  place-no_block n low h = closed.each n low ∙ ap (λ (o : Option Block). Some o) (kept-none (F n) (T n) xs n h)
 
   -- a block that the bench filed is the content of a filed number below `total`
   filed-of_listed : (n : ℕ) (b : Block) → HasPair v.list n b → (n < total) × (F n ≡ 1) × (K n ≡ Some b)
@@ -135,7 +146,7 @@ module _ (width id : ℕ) (v : View) (ws : List ℕ) (xs items : List (Option Bl
         arith,
         some_of,
         unlisted total (bit_of 3 ws) (bit_of 0 ws) F T K (IsEmpty homes)
-            (IsFilled homes) fin.0.views r id v get_elem-own_view n z,
+            (IsFilled homes) views r id v get_elem-own_view n z,
       ))) (λ ne. omega (arith, ne, small)) in (
         r.stages.in_range n (omega (arith, f, r.stages.pending_once n)),
         f,
@@ -154,7 +165,7 @@ module _ (width id : ℕ) (v : View) (ws : List ℕ) (xs items : List (Option Bl
   -- the place of each number that the bench took has no block
   pub LacksTakes-closed : (n : ℕ) → 0 < occurrences n (numbers v.takes) → slice_get items n ≡ Some None
   LacksTakes-closed n h = let t = is_taken total (bit_of 3 ws) (bit_of 0 ws) F T K (IsEmpty homes)
-      (IsFilled homes) fin.0.views
+      (IsFilled homes) views
       r id v get_elem-own_view n h in
       place-no_block n (r.stages.in_range n (omega (arith, t, r.stages.taken_is_filed n, r.stages.pending_once n)))
       (inr t)
@@ -162,14 +173,14 @@ module _ (width id : ℕ) (v : View) (ws : List ℕ) (xs items : List (Option Bl
   -- the bench filed, and saw others file, at most as many numbers as are filed
   pub list_length-bound : missing_count v.filed (numbers v.list) total + length v.list ≤ sum_below F total
   list_length-bound = list_length_bound total (bit_of 3 ws) (bit_of 0 ws) F T K (IsEmpty homes)
-      (IsFilled homes) fin.0.views r
+      (IsFilled homes) views r
       id v
       get_elem-own_view
 
   -- the bench took, and saw others take, at most as many numbers as are taken
   pub takes_length-bound : missing_count v.taken (numbers v.takes) total + length v.takes ≤ sum_below T total
   takes_length-bound = takes_length_bound total (bit_of 3 ws) (bit_of 0 ws) F T K (IsEmpty homes)
-      (IsFilled homes) fin.0.views r
+      (IsFilled homes) views r
       id v
       get_elem-own_view
 
@@ -178,13 +189,13 @@ module _ (width id : ℕ) (v : View) (ws : List ℕ) (xs items : List (Option Bl
     -- a bench with the whole share filed all numbers that are filed
     pub filed_sum-whole_share : sum_below F total ≡ length v.list
     filed_sum-whole_share = whole_listed total (bit_of 3 ws) (bit_of 0 ws) F T K (IsEmpty homes)
-        (IsFilled homes) fin.0.views r id
+        (IsFilled homes) views r id
         v get_elem-own_view all
 
     -- a bench with the whole share took all numbers that are taken
     pub taken_sum-whole_share : sum_below T total ≡ length v.takes
     taken_sum-whole_share = whole_taken total (bit_of 3 ws) (bit_of 0 ws) F T K (IsEmpty homes)
-        (IsFilled homes) fin.0.views r id v
+        (IsFilled homes) views r id v
         get_elem-own_view all
 
     -- a number that was seen claimed, filed or taken is claimed
@@ -202,17 +213,17 @@ module _ (width id : ℕ) (v : View) (ws : List ℕ) (xs items : List (Option Bl
     -- with nothing pending, it did all that it has seen done
     pub DidAll-whole_share : v.pending ≡ [] → DidAll v
     DidAll-whole_share none = record {
-      draws = λ d h. sym (own_draws total (bit_of 3 ws) (bit_of 0 ws) F T K (IsEmpty homes) (IsFilled homes) fin.0.views
+      draws = λ d h. sym (own_draws total (bit_of 3 ws) (bit_of 0 ws) F T K (IsEmpty homes) (IsFilled homes) views
           r id v get_elem-own_view all d) ∙ r.draws.found id v get_elem-own_view d h;
       list = λ n h. let p : occurrences n v.pending ≡ 0 = ap (occurrences n) none in
           omega (
             arith,
-            own_claims total (bit_of 3 ws) (bit_of 0 ws) F T K (IsEmpty homes) (IsFilled homes) fin.0.views r
+            own_claims total (bit_of 3 ws) (bit_of 0 ws) F T K (IsEmpty homes) (IsFilled homes) views r
                 id v get_elem-own_view all n,
             claimed-of_seen n h,
             p,
           );
-      takes = λ n h. sym (own_takes total (bit_of 3 ws) (bit_of 0 ws) F T K (IsEmpty homes) (IsFilled homes) fin.0.views
+      takes = λ n h. sym (own_takes total (bit_of 3 ws) (bit_of 0 ws) F T K (IsEmpty homes) (IsFilled homes) views
           r id v get_elem-own_view all n) ∙ r.stages.saw_taken id v get_elem-own_view n h;
     }
 
@@ -221,7 +232,7 @@ module _ (width id : ℕ) (v : View) (ws : List ℕ) (xs items : List (Option Bl
       → occurrences n (numbers v.takes) ≡ 0 → slice_get items n ≡ Some (Some b)
   HasUntaken-closed n b all has none = let l = filed-of_listed n b has in
       place-untaken n b l.0 l.1 (all_taken total (bit_of 3 ws) (bit_of 0 ws) F T K (IsEmpty homes)
-      (IsFilled homes) fin.0.views r
+      (IsFilled homes) views r
       id v get_elem-own_view all n l.0 ∙ none) l.2
 
   -- if all filed numbers were filed by the bench, the place of a number that it didn't file has no block
@@ -229,7 +240,7 @@ module _ (width id : ℕ) (v : View) (ws : List ℕ) (xs items : List (Option Bl
       → slice_get items n ≡ Some None
   LacksOthers-closed n all low none = place-no_block n low
       (inl (all_listed total (bit_of 3 ws) (bit_of 0 ws) F T K (IsEmpty homes)
-      (IsFilled homes) fin.0.views r id v get_elem-own_view all n low ∙ none))
+      (IsFilled homes) views r id v get_elem-own_view all n low ∙ none))
 
   -- the block at a place is the content of its number
   content-of_place : (n : ℕ) (b : Block) → n < total → HasBlock items n b → K n ≡ Some b
@@ -243,7 +254,7 @@ module _ (width id : ℕ) (v : View) (ws : List ℕ) (xs items : List (Option Bl
 
   -- each block is at the place of its number
   pub AreNumbered-closed : length items ≡ total → (n : ℕ) (b : Block) → HasBlock items n b → b.number ≡ n
-  AreNumbered-closed long_items n b has = fin.1.0.1.2 n b
+  AreNumbered-closed long_items n b has = closed.last.1.0.1.2 n b
       (content-of_place n b (omega (arith, long_items, slice_get-within items n (Some b) has)) has)
 
   -- if all filed numbers were filed by the bench, each block at a place was filed by it
