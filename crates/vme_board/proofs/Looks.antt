@@ -1,14 +1,12 @@
 -- What a load of a word shows of one number: whether the bench sees it claimed, filed or taken after it.
-use Rattle.std.proofs.Common.{◌≡◌, ℕ, ◌+◌, ◌*◌, ◌/◌, ◌%◌, ◌<◌, ◌≢◌, List, ◌++◌, ◌∙◌, Bool, true, false, sym, refl, ap}
-use Rattle.std.proofs.Common.{arith, subst, le_refl}
+use Rattle.std.proofs.Common.{◌≡◌, ℕ, ◌+◌, ◌*◌, ◌/◌, ◌%◌, ◌<◌, ◌≢◌, List, [], ◌++◌, ◌∙◌, Bool, true, false, sym, refl}
+use Rattle.std.proofs.Common.{ap, arith, subst, le_refl}
 use mathlib.Core.Logic.{dite}
 use native.Mathlib.Decide.{ℕ_discrete}
 use Rattle.std.specs.Prelude.{nat_eq}
 use Rattle.std.specs.Bool.{OnTrue, OnFalse}
 use Rattle.std.proofs.lemmas.Bool.Decides.{nat_tests}
 use Rattle.std.specs.Int.{bit_at}
-use Rattle.atomic_table.specs.Table.{step}
-use mathlib.Core.Option.{none}
 use Rattle.vme_trace.specs.declared.block.Block.{Block}
 use Rattle.vme_core.specs.declared.view.View.{View}
 use Rattle.vme_core.specs.Counting.{occurrences, set_bits}
@@ -16,10 +14,11 @@ use Rattle.vme_core.specs.Stages.{SeesMore}
 use Rattle.vme_core.specs.Views.{after_claim, after_filing, with_claimed, with_filed, with_taken}
 use Rattle.vme_core.proofs.Sums.{occurrences-append}
 use Rattle.vme_core.proofs.SetBits.{set_bits-true, set_bits-all}
-use Rattle.vme_board.specs.Postconditions.{SeatState, ClaimedLookPost, FiledLookPost, TakenLookPost}
+use Rattle.vme_board.specs.Postconditions.{SeatState}
+use Rattle.vme_board.proofs.Bits.{bit_at-not_one}
 
 -- if P follows from a ≡ 1, it holds where the test for a ≡ 1 is true
-pub OnTrue-one : (a : ℕ) (P : Type 0) → (a ≡ 1 → P) → OnTrue (nat_eq a 1) P
+OnTrue-one : (a : ℕ) (P : Type 0) → (a ≡ 1 → P) → OnTrue (nat_eq a 1) P
 OnTrue-one a P h = by_test (nat_eq a 1) refl
   where
     by_test : (b : Bool) → nat_eq a 1 ≡ b → OnTrue b P
@@ -53,91 +52,50 @@ module _ (i n k found : ℕ) (is : i ≡ 4 * (n / 64) + k) (small : k < 4) where
       let a = t.2 in let same : t.0 ≡ n % 64 = omega (arith, is, small, l, a) in let one : bit_at found (n % 64)
       ≡ 1 = ap (bit_at found) (sym same) ∙ t.3 in absurd (omega (arith, one, zero_bit)))
 
-  -- if n has the bit 1 whenever it is in xs, and its bit is 0, then n is neither in xs nor among the numbers added to
-  -- xs
-  is_absent : (xs : List ℕ) → (0 < occurrences n xs → bit_at found (n % 64) ≡ 1) → bit_at found (n % 64) ≡ 0
-      → (occurrences n xs ≡ 0) × (occurrences n (shown ++ xs) ≡ 0)
-  is_absent xs there zero_bit = dite (ℕ_discrete (occurrences n xs) 0)
-      (λ e. (e, omega (arith, e, occurrences-not_shown zero_bit, occurrences-append n shown xs)))
-      (λ ne. absurd (omega (arith, there (omega (arith, ne)), zero_bit)))
+  -- `own` is the bit of n in the word
+  module _ (own : ℕ) (read : own ≡ bit_at found (n % 64)) where
+    -- if n has the bit 1 whenever it is in xs, and its bit isn't 1, then n is neither in xs nor among the numbers added
+    -- to xs
+    pub is_absent : (xs : List ℕ) → (0 < occurrences n xs → bit_at found (n % 64) ≡ 1) → own ≢ 1
+        → (occurrences n xs ≡ 0) × (occurrences n (shown ++ xs) ≡ 0)
+    is_absent xs there ne = let zero_bit = bit_at-not_one found (n % 64) own read ne in
+        dite (ℕ_discrete (occurrences n xs) 0)
+        (λ e. (e, omega (arith, e, occurrences-not_shown zero_bit, occurrences-append n shown xs)))
+        (λ some. absurd (omega (arith, there (omega (arith, some)), zero_bit)))
 
-module _ (slots i n : ℕ) (before : SeatState) (found : ℕ) (after : SeatState) where
-  -- a load of the taken bits
-  module _ (post : TakenLookPost (step slots i 0 0 none) before found after) (is : i ≡ 4 * (n / 64) + 2) where
-    -- if its bit is 1, the number is seen taken after the load
-    pub taken_shown : bit_at found (n % 64) ≡ 1 → 0 < occurrences n after.0.taken
-    taken_shown one = subst (λ (m : SeatState). 0 < occurrences n m.0.taken) (sym post.0)
-        (occurrences-shown i n 2 found is (omega arith) before.0.taken one)
+    -- where the bit of n is 1, n is among ys, the numbers that are shown and xs
+    pub OnTrue-shown : (xs ys : List ℕ) → ys ≡ shown ++ xs → OnTrue (nat_eq own 1) (0 < occurrences n ys)
+    OnTrue-shown xs ys e = OnTrue-one own _
+        (λ one. subst (λ (zs : List ℕ). 0 < occurrences n zs) (sym e) (occurrences-shown xs (sym read ∙ one)))
 
-    -- if its bit is 0, the number isn't seen taken after the load
-    pub taken_absent : bit_at found (n % 64) ≡ 0 → occurrences n after.0.taken ≡ 0
-    taken_absent none_set = subst (λ (m : SeatState). occurrences n m.0.taken ≡ 0) (sym post.0)
-        (is_absent i n 2 found is (omega arith) before.0.taken (post.1 n is) none_set).1
+    -- where it isn't, and n has the bit 1 whenever it is in xs, n isn't among ys
+    pub OnFalse-shown : (xs ys : List ℕ) → ys ≡ shown ++ xs → (0 < occurrences n xs → bit_at found (n % 64) ≡ 1)
+        → OnFalse (nat_eq own 1) (occurrences n ys ≡ 0)
+    OnFalse-shown xs ys e there = OnFalse-not_one own _
+        (λ ne. subst (λ (zs : List ℕ). occurrences n zs ≡ 0) (sym e) (is_absent xs there ne).1)
 
-  -- a load of the filed bits
-  module _ (post : FiledLookPost (step slots i 0 0 none) before found after) (is : i ≡ 4 * (n / 64) + 1) where
-    -- if its bit is 1, the number is seen filed after the load
-    pub filed_shown : bit_at found (n % 64) ≡ 1 → 0 < occurrences n after.0.filed
-    filed_shown one = subst (λ (m : SeatState). 0 < occurrences n m.0.filed) (sym post.0)
-        (occurrences-shown i n 1 found is (omega arith) before.0.filed one)
-
-    -- if its bit is 0, the number isn't seen filed after the load
-    pub filed_absent : bit_at found (n % 64) ≡ 0 → occurrences n after.0.filed ≡ 0
-    filed_absent none_set = subst (λ (m : SeatState). occurrences n m.0.filed ≡ 0) (sym post.0)
-        (is_absent i n 1 found is (omega arith) before.0.filed (post.1 n is) none_set).1
-
-    -- if its bit is 0, the number was seen neither filed nor taken before
-    pub filed_never : bit_at found (n % 64) ≡ 0 → (occurrences n before.0.filed ≡ 0)
-        × (occurrences n before.0.taken ≡ 0)
-    filed_never none_set = (
-      (is_absent i n 1 found is (omega arith) before.0.filed (post.1 n is) none_set).0,
-      (is_absent i n 1 found is (omega arith) before.0.taken (post.2 n is) none_set).0,
-    )
-
-  -- a load of the claimed bits
-  module _ (post : ClaimedLookPost (step slots i 0 0 none) before found after) (is : i ≡ 4 * (n / 64) + 0) where
-    -- if its bit is 1, the number is seen claimed after the load
-    pub claimed_shown : bit_at found (n % 64) ≡ 1 → 0 < occurrences n after.0.claimed
-    claimed_shown one = subst (λ (m : SeatState). 0 < occurrences n m.0.claimed) (sym post.0)
-        (occurrences-shown i n 0 found is (omega arith) before.0.claimed one)
-
-    -- if its bit is 0, the number isn't seen claimed after the load
-    pub claimed_absent : bit_at found (n % 64) ≡ 0 → occurrences n after.0.claimed ≡ 0
-    claimed_absent none_set = subst (λ (m : SeatState). occurrences n m.0.claimed ≡ 0) (sym post.0)
-        (is_absent i n 0 found is (omega arith) before.0.claimed (post.1 n is) none_set).1
+-- a bench sees more after more numbers were seen claimed, filed and taken
+SeesMore-added : (v : View) (cl fi ta : List ℕ)
+    → SeesMore v (record v { claimed = cl ++ v.claimed; filed = fi ++ v.filed; taken = ta ++ v.taken })
+SeesMore-added v cl fi ta = record {
+  found = λ d. le_refl _;
+  claimed = λ n. omega (arith, occurrences-append n cl v.claimed);
+  filed = λ n.
+      omega (arith, occurrences-append n fi v.filed);
+  taken = λ n. omega (arith, occurrences-append n ta v.taken);
+}
 
 -- a load of claimed bits adds to what the bench has seen
 pub SeesMore-claimed : (a b : SeatState) (ns : List ℕ) → b ≡ (with_claimed a.0 ns, a.1) → SeesMore a.0 b.0
-SeesMore-claimed a b ns e = subst (λ (m : SeatState). SeesMore a.0 m.0) (sym e)
-    (record {
-      found = λ d. le_refl _;
-      claimed = λ n. omega (arith, occurrences-append n ns a.0.claimed);
-      filed = λ n.
-          le_refl _;
-      taken = λ n. le_refl _;
-    })
+SeesMore-claimed a b ns e = subst (λ (m : SeatState). SeesMore a.0 m.0) (sym e) (SeesMore-added a.0 ns [] [])
 
 -- a load of filed bits adds to what the bench has seen
 pub SeesMore-filed : (a b : SeatState) (ns : List ℕ) → b ≡ (with_filed a.0 ns, a.1) → SeesMore a.0 b.0
-SeesMore-filed a b ns e = subst (λ (m : SeatState). SeesMore a.0 m.0) (sym e)
-    (record {
-      found = λ d. le_refl _;
-      claimed = λ n. omega (arith, occurrences-append n ns a.0.claimed);
-      filed = λ n.
-          omega (arith, occurrences-append n ns a.0.filed);
-      taken = λ n. le_refl _;
-    })
+SeesMore-filed a b ns e = subst (λ (m : SeatState). SeesMore a.0 m.0) (sym e) (SeesMore-added a.0 ns ns [])
 
 -- a load of taken bits adds to what the bench has seen
 pub SeesMore-taken : (a b : SeatState) (ns : List ℕ) → b ≡ (with_taken a.0 ns, a.1) → SeesMore a.0 b.0
-SeesMore-taken a b ns e = subst (λ (m : SeatState). SeesMore a.0 m.0) (sym e)
-    (record {
-      found = λ d. le_refl _;
-      claimed = λ n. omega (arith, occurrences-append n ns a.0.claimed);
-      filed = λ n.
-          omega (arith, occurrences-append n ns a.0.filed);
-      taken = λ n. omega (arith, occurrences-append n ns a.0.taken);
-    })
+SeesMore-taken a b ns e = subst (λ (m : SeatState). SeesMore a.0 m.0) (sym e) (SeesMore-added a.0 ns ns ns)
 
 -- a bench sees more after it claimed and filed a number
 pub SeesMore-filing : (v : View) (n : ℕ) (b : Block) → SeesMore v (after_filing (after_claim v n) n b)

@@ -1,9 +1,10 @@
-use Rattle.std.proofs.Common.{◌/◌, ◌%◌, ◌∙◌, sym, arith}
+use Rattle.std.proofs.Common.{◌/◌, ap, arith}
 use Rattle.vme_core.proofs.StageRanks.{rank-seen_not_filed}
+use Rattle.vme_board.specs.Postconditions.{SeatState}
 use Rattle.vme_board.proofs.bench.Bench.sees_filed.Goals as goal
-use Rattle.vme_board.proofs.Bits.{word_index-within, bit_at-not_one}
+use Rattle.vme_board.proofs.Bits.{word_index-within}
 use Rattle.vme_board.proofs.Steps.{Allows-look_filed}
-use Rattle.vme_board.proofs.Looks.{filed_shown, filed_absent, OnTrue-one, OnFalse-not_one, SeesMore-filed, filed_never}
+use Rattle.vme_board.proofs.Looks.{OnFalse-not_one, is_absent, OnTrue-shown, OnFalse-shown, SeesMore-filed}
 
 pub load-found-requires : goal.load-found-requires
 load-found-requires c =
@@ -19,23 +20,24 @@ load-found-requires c =
     )
 
 pub returns-clause-yes : goal.returns-clause-yes
-returns-clause-yes c = OnTrue-one c.bit.result _ (λ one. filed_shown c.args.board.now.table.shared.table_id.slots
-    c.word_of.result c.args.number c.args.self.now.seat.me c.load-found.result c.load-found.new.seat.me
-    c.load-found.ensures.2 c.word_of.ensures (sym c.bit.ensures ∙ one))
+returns-clause-yes c = OnTrue-shown c.word_of.result c.args.number 1 c.load-found.result c.word_of.ensures
+    (omega arith) c.bit.result c.bit.ensures c.args.self.now.seat.me.0.filed _
+    (ap (λ (m : SeatState). m.0.filed) c.load-found.ensures.2.0)
 
 pub returns-clause-no : goal.returns-clause-no
-returns-clause-no c = OnFalse-not_one c.bit.result _ (λ ne. filed_absent c.args.board.now.table.shared.table_id.slots
-    c.word_of.result c.args.number c.args.self.now.seat.me c.load-found.result c.load-found.new.seat.me
-    c.load-found.ensures.2 c.word_of.ensures (bit_at-not_one c.load-found.result (c.args.number % 64) c.bit.result
-    c.bit.ensures
-    ne))
+returns-clause-no c = OnFalse-shown c.word_of.result c.args.number 1 c.load-found.result c.word_of.ensures
+    (omega arith) c.bit.result c.bit.ensures c.args.self.now.seat.me.0.filed _
+    (ap (λ (m : SeatState). m.0.filed) c.load-found.ensures.2.0)
+    (c.load-found.ensures.2.1 c.args.number c.word_of.ensures)
 
 pub returns-clause-never : goal.returns-clause-never
 returns-clause-never c = OnFalse-not_one c.bit.result _
-    (λ ne. let never = filed_never c.args.board.now.table.shared.table_id.slots c.word_of.result c.args.number
-    c.args.self.now.seat.me c.load-found.result c.load-found.new.seat.me c.load-found.ensures.2 c.word_of.ensures
-    (bit_at-not_one c.load-found.result (c.args.number % 64) c.bit.result c.bit.ensures ne) in
-    rank-seen_not_filed c.args.self.now.seat.me.0 c.args.number never.0 never.1)
+    (λ ne. let before = c.args.self.now.seat.me.0 in
+    let absent = is_absent c.word_of.result c.args.number 1 c.load-found.result c.word_of.ensures
+    (omega arith) c.bit.result c.bit.ensures in
+    rank-seen_not_filed before c.args.number
+    (absent before.filed (c.load-found.ensures.2.1 c.args.number c.word_of.ensures) ne).0
+    (absent before.taken (c.load-found.ensures.2.2 c.args.number c.word_of.ensures) ne).0)
 
 pub returns-clause-grows : goal.returns-clause-grows
 returns-clause-grows c = SeesMore-filed c.args.self.now.seat.me c.load-found.new.seat.me _ c.load-found.ensures.2.0

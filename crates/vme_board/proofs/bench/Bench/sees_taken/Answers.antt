@@ -1,8 +1,9 @@
-use Rattle.std.proofs.Common.{◌/◌, ◌%◌, ◌∙◌, sym, arith}
+use Rattle.std.proofs.Common.{◌/◌, ap, arith}
+use Rattle.vme_board.specs.Postconditions.{SeatState}
 use Rattle.vme_board.proofs.bench.Bench.sees_taken.Goals as goal
-use Rattle.vme_board.proofs.Bits.{word_index-within, bit_at-not_one}
+use Rattle.vme_board.proofs.Bits.{word_index-within}
 use Rattle.vme_board.proofs.Steps.{Allows-look_taken}
-use Rattle.vme_board.proofs.Looks.{taken_shown, taken_absent, OnTrue-one, OnFalse-not_one, SeesMore-taken}
+use Rattle.vme_board.proofs.Looks.{OnTrue-shown, OnFalse-shown, SeesMore-taken}
 
 pub load-found-requires : goal.load-found-requires
 load-found-requires c =
@@ -18,16 +19,15 @@ load-found-requires c =
     )
 
 pub returns-clause-yes : goal.returns-clause-yes
-returns-clause-yes c = OnTrue-one c.bit.result _ (λ one. taken_shown c.args.board.now.table.shared.table_id.slots
-    c.word_of.result c.args.number c.args.self.now.seat.me c.load-found.result c.load-found.new.seat.me
-    c.load-found.ensures.2 c.word_of.ensures (sym c.bit.ensures ∙ one))
+returns-clause-yes c = OnTrue-shown c.word_of.result c.args.number 2 c.load-found.result c.word_of.ensures
+    (omega arith) c.bit.result c.bit.ensures c.args.self.now.seat.me.0.taken _
+    (ap (λ (m : SeatState). m.0.taken) c.load-found.ensures.2.0)
 
 pub returns-clause-no : goal.returns-clause-no
-returns-clause-no c = OnFalse-not_one c.bit.result _ (λ ne. taken_absent c.args.board.now.table.shared.table_id.slots
-    c.word_of.result c.args.number c.args.self.now.seat.me c.load-found.result c.load-found.new.seat.me
-    c.load-found.ensures.2 c.word_of.ensures (bit_at-not_one c.load-found.result (c.args.number % 64) c.bit.result
-    c.bit.ensures
-    ne))
+returns-clause-no c = OnFalse-shown c.word_of.result c.args.number 2 c.load-found.result c.word_of.ensures
+    (omega arith) c.bit.result c.bit.ensures c.args.self.now.seat.me.0.taken _
+    (ap (λ (m : SeatState). m.0.taken) c.load-found.ensures.2.0)
+    (c.load-found.ensures.2.1 c.args.number c.word_of.ensures)
 
 pub returns-clause-grows : goal.returns-clause-grows
 returns-clause-grows c = SeesMore-taken c.args.self.now.seat.me c.load-found.new.seat.me _ c.load-found.ensures.2.0
