@@ -1,4 +1,5 @@
-use Rattle.std.proofs.Common.{◌≡◌, ◌<◌, ◌≤◌, ◌++◌, ◌∙◌, length, length-append, sym, ap, arith, subst}
+use Rattle.std.proofs.Common.{◌≡◌, ℕ, ◌+◌, ◌<◌, ◌≤◌, List, ◌++◌, ◌∙◌, length, length-append, sym, ap, arith, subst}
+use Rattle.vme_trace.specs.declared.block.Block.{Block}
 use Rattle.vme_core.specs.Counting.{occurrences, numbers}
 use Rattle.vme_core.specs.Views.{joint_view}
 use Rattle.vme_core.proofs.Sums.{occurrences-append, numbers-append}
@@ -63,29 +64,23 @@ invariant_of-result c =
       same_blocks = subst (λ (m : SeatState). SameBlocks m.0) (sym once.0) once.6;
     }
 
+-- a number that occurs in two lists together at most once is in one of them at most
+occurrences-both_once : (xs ys : List (ℕ × Block)) (n : ℕ) → occurrences n (numbers (xs ++ ys)) ≤ 1
+    → occurrences n (numbers xs) + occurrences n (numbers ys) ≤ 1
+occurrences-both_once xs ys n once = omega (
+  arith,
+  once,
+  ap (occurrences n) (numbers-append xs ys),
+  occurrences-append n (numbers xs) (numbers ys),
+)
+
 pub returns-clause-lists : goal.returns-clause-lists
-returns-clause-lists c n = let a = c.args.self.seat.me.0 in let b = c.args.other.seat.me.0 in
-    let once = c.load.ensures.2 in
-    let o = subst (λ (m : SeatState). occurrences n (numbers m.0.list) ≤ 1) c.join_seat.ensures.2 (once.2 n) in
-    omega (
-      arith,
-      o,
-      ap (occurrences n) (numbers-append a.list b.list),
-      occurrences-append n (numbers a.list)
-          (numbers b.list),
-    )
+returns-clause-lists c n = occurrences-both_once c.args.self.seat.me.0.list c.args.other.seat.me.0.list n
+    (subst (λ (m : SeatState). occurrences n (numbers m.0.list) ≤ 1) c.join_seat.ensures.2 (c.load.ensures.2.2 n))
 
 pub returns-clause-takes : goal.returns-clause-takes
-returns-clause-takes c n = let a = c.args.self.seat.me.0 in let b = c.args.other.seat.me.0 in
-    let once = c.load.ensures.2 in
-    let o = subst (λ (m : SeatState). occurrences n (numbers m.0.takes) ≤ 1) c.join_seat.ensures.2 (once.3 n) in
-    omega (
-      arith,
-      o,
-      ap (occurrences n) (numbers-append a.takes b.takes),
-      occurrences-append n (numbers a.takes)
-          (numbers b.takes),
-    )
+returns-clause-takes c n = occurrences-both_once c.args.self.seat.me.0.takes c.args.other.seat.me.0.takes n
+    (subst (λ (m : SeatState). occurrences n (numbers m.0.takes) ≤ 1) c.join_seat.ensures.2 (c.load.ensures.2.3 n))
 
 pub returns-clause-draws : goal.returns-clause-draws
 returns-clause-draws c d = let a = c.args.self.seat.me.0 in let b = c.args.other.seat.me.0 in
