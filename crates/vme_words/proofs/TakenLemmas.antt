@@ -1,6 +1,6 @@
 -- Words in which clap finds no fault name a task of the program, and give all that the order of the task needs.
 use Rattle.std.proofs.Common.{◌≡◌, ◌∙◌, ◌⊎◌, ◌&&◌, ◌||◌, Bool, true, false, not, refl, sym, ap, subst, codes, List, []}
-use Rattle.std.proofs.Common.{◌∷◌, Option, Some, None, is_some, true≢false, inl, inr}
+use Rattle.std.proofs.Common.{ℕ, ◌∷◌, Option, Some, None, is_some, true≢false, inl, inr}
 use Rattle.std.specs.Prelude.{cond, find, drop, option_map, pos, unwrap_or}
 use Rattle.std.specs.Str.{bytes_eq}
 use Rattle.std.proofs.lemmas.Slice.Eq.{bytes_eq-Decides}
@@ -11,8 +11,8 @@ use Rattle.clap.specs.Faults.{settle_fault, walk_fault}
 use Rattle.clap.specs.Simple.{App, Shape, built, built_leaf, entered, filled, help_rule, help_shape, inherited}
 use Rattle.clap.specs.Simple.{label_of, marked_built, names_of, rows_at, subcommand_of, with_index, with_leaf_noted}
 use Rattle.clap.specs.Takes.{is_given}
-use Rattle.clap.specs.Walk.{Rule, Text, answers_to, finished, nothing_held, rows_after, settled, stop_after, walk}
-use Rattle.clap.specs.Walk.{walk_from, with_default}
+use Rattle.clap.specs.Walk.{Row, Rule, Text, answers_to, finished, has_row, nothing_held, rows_after, settled}
+use Rattle.clap.specs.Walk.{stop_after, walk, walk_from, with_default}
 use Rattle.clap.specs.declared.builder.value_parser.ValueParser.TheVariants.{Signed, Unsigned}
 use Rattle.clap.proofs.OnLiterals.{clap_on_literals}
 use Rattle.vme_words.specs.Commands.{allow_rule, annotate_app, audit_app, bind_app, block_rule, confirm_app}
@@ -20,12 +20,14 @@ use Rattle.vme_words.specs.Commands.{explain_app, faults_app, file_count_rule, f
 use Rattle.vme_words.specs.Commands.{flag_rule, greatest_file_number, greatest_number, join_app, list_app, part_app}
 use Rattle.vme_words.specs.Commands.{recording_app, rules_app, skew_rule, slots_rule, stop_rule, tell_app}
 use Rattle.vme_words.specs.Commands.{transfers_rule, variables_app, vmecheck_app, word_rule, workers_rule}
-use Rattle.vme_words.specs.Orders.{HasAudit, HasBind, HasConfirmation, HasName, HasOptionsAndNames, HasOrder, HasPart}
-use Rattle.vme_words.specs.Orders.{HasSkewAndNames, MayHaveSignedIn, MayHaveUnsignedFrom}
+use Rattle.vme_words.specs.Orders.{HasAudit, HasBind, HasConfirmation, HasName, HasNames, HasOptionsAndNames, HasOrder}
+use Rattle.vme_words.specs.Orders.{HasPart, HasSignedIn, HasSkewAndNames, HasUnsignedFrom, MayHaveSignedIn}
+use Rattle.vme_words.specs.Orders.{MayHaveUnsignedFrom}
 use Rattle.vme_words.specs.declared.limits.TheConstants.{MOST_SLOTS, MOST_STEPS, MOST_WORKERS}
 use Rattle.vme_words.specs.declared.order.Task.TheVariants.{Annotate, Audit, Bind, Check, Confirm, Explain, Faults}
 use Rattle.vme_words.specs.declared.order.Task.TheVariants.{Join, List as Listing, Part, Rules, Tell, Variables}
-use Rattle.vme_words.proofs.RowLemmas.{EachKnown, NamesNoHelp, or_else-none, has_row-own_default, has_row-defaults}
+use Rattle.vme_words.proofs.RowLemmas.{AllGood, EachKnown, Known, NamesNoHelp, or_else-none, has_row-own_default}
+use Rattle.vme_words.proofs.RowLemmas.{has_row-defaults}
 use Rattle.vme_words.proofs.RowLemmas.{first_of-given}
 use Rattle.vme_words.proofs.RowLemmas.{AllGood-level, one_of-accepted_or_none, one_of-accepted, NamesNoHelp-walked}
 
@@ -191,13 +193,17 @@ file_count = with_index 1 (filled file_count_rule)
 abbrev parts : Rule
 parts = with_index 1 (filled (files_rule (codes "PART")))
 
+-- the arguments by which a recording is judged, and more
+abbrev judging_rules : List Rule → List Rule
+judging_rules more = block ∷ workers ∷ skew ∷ binding ∷ dump ∷ more
+
 -- the arguments of a subcommand that judges a recording, such as `check`
 abbrev recording_rules : List Rule
-recording_rules = block ∷ workers ∷ skew ∷ binding ∷ dump ∷ help ∷ []
+recording_rules = judging_rules (help ∷ [])
 
 -- the arguments of `list`
 abbrev listing_rules : List Rule
-listing_rules = block ∷ workers ∷ skew ∷ binding ∷ dump ∷ times ∷ help ∷ []
+listing_rules = judging_rules (times ∷ help ∷ [])
 
 -- the arguments of `annotate`
 abbrev annotate_rules : List Rule
@@ -443,6 +449,66 @@ check_kinds-three true true false e = cc
 check_kinds-three true false l e = cc
 check_kinds-three false d l e = cc
 
+-- an option that has a row has a number from `least` to `greatest`, if its parser asks for one
+HasSignedIn-row : (c : List Rule) (rows : List Row) (a : Rule) (least greatest : ℕ) → AllGood c rows → Known c a
+    → a.parser ≡ Some (Signed (pos least) (pos greatest)) → has_row a.id rows ≡ true
+    → HasSignedIn a.id least greatest rows
+HasSignedIn-row c rows a least greatest good known parser has =
+    let n = one_of-accepted c rows a (Signed (pos least) (pos greatest)) good known.is_by_id parser has in
+    record { text = n.0; read = n.1; says = n.2 }
+
+-- an option that has a row has a number of 64 bits from `least` on, if its parser asks for one
+HasUnsignedFrom-row : (c : List Rule) (rows : List Row) (a : Rule) (least : ℕ) → AllGood c rows → Known c a
+    → a.parser ≡ Some (Unsigned least greatest_number) → has_row a.id rows ≡ true → HasUnsignedFrom a.id least rows
+HasUnsignedFrom-row c rows a least good known parser has =
+    let n = one_of-accepted c rows a (Unsigned least greatest_number) good known.is_by_id parser has in
+    record { text = n.0; read = n.1; says = n.2 }
+
+-- an option isn't given, or has a number of 64 bits from `least` on, if its parser asks for one
+MayHaveUnsignedFrom-good : (c : List Rule) (rows : List Row) (a : Rule) (least : ℕ) → AllGood c rows → Known c a
+    → a.parser ≡ Some (Unsigned least greatest_number) → MayHaveUnsignedFrom a.id least rows
+MayHaveUnsignedFrom-good c rows a least good known parser = elim
+    (one_of-accepted_or_none c rows a (Unsigned least greatest_number) good known.is_by_id parser) [
+      | inl none ↦ inl none
+      | inr n ↦ inr (record { text = n.0; read = n.1; says = n.2 })
+    ]
+
+-- where the binding and the dump are given, their names are
+HasNames-given : (c : List Rule) (rows : List Row) → AllGood c rows → Known c binding → Known c dump
+    → (is_given (codes "BINDING") rows ≡ true) × (is_given (codes "DUMP") rows ≡ true) → HasNames rows
+HasNames-given c rows good known_binding known_dump given = record {
+  binding = first_of-given c rows binding good known_binding.is_by_id given.0;
+  dump = first_of-given c rows dump good known_dump.is_by_id given.1;
+}
+
+-- the arguments by which a recording is judged, and more, give its options and the names of its files
+HasOptionsAndNames-judging : (more : List Rule) (words : List Text)
+    → EachKnown (judging_rules more) (judging_rules more)
+    → AllGood (judging_rules more) (rows_after (judging_rules more) [] words)
+    → (is_given (codes "BINDING") (rows_after (judging_rules more) [] words) ≡ true)
+    × (is_given (codes "DUMP") (rows_after (judging_rules more) [] words) ≡ true)
+    → HasOptionsAndNames (rows_after (judging_rules more) [] words)
+HasOptionsAndNames-judging more words known good given =
+    let rules = judging_rules more in
+    let rows = rows_after rules [] words in
+    let given_rows = (settled rules (walk rules [] nothing_held words).held).rows in
+    let rows_with_block = with_default given_rows block in
+    let rows_with_workers = with_default rows_with_block workers in
+    record {
+      options = record {
+        block = HasSignedIn-row rules rows block 1 MOST_STEPS good known.0 refl
+            (has_row-defaults (codes "block") (workers ∷ skew ∷ binding ∷ dump ∷ more) rows_with_block
+            (has_row-own_default given_rows block (codes "16384") [] refl));
+        workers = HasSignedIn-row rules rows workers 1 MOST_WORKERS good known.1.0 refl
+            (has_row-defaults (codes "workers") (skew ∷ binding ∷ dump ∷ more) rows_with_workers
+            (has_row-own_default rows_with_block workers (codes "4") [] refl));
+        skew = HasUnsignedFrom-row rules rows skew 0 good known.1.1.0 refl
+            (has_row-defaults (codes "skew") (binding ∷ dump ∷ more) (with_default rows_with_workers skew)
+            (has_row-own_default rows_with_workers skew (codes "0") [] refl));
+      };
+      names = HasNames-given rules rows good known.1.1.1.0 known.1.1.1.1.0 given;
+    }
+
 -- words of a subcommand that judges a recording, without a fault, give its options and the names of its files
 HasOptionsAndNames-recording : (name : Text) (words : List Text)
     → level_fault (recording name) [] nothing_held words false [] ≡ []
@@ -450,33 +516,8 @@ HasOptionsAndNames-recording : (name : Text) (words : List Text)
 HasOptionsAndNames-recording name words e =
     let level = AllGood-level (recording name) words EachKnown-recording e in
     let rows = rows_after recording_rules [] words in
-    let given_rows = (settled recording_rules (walk recording_rules [] nothing_held words).held).rows in
-    let given = check_kinds-two (is_given (codes "BINDING") rows) (is_given (codes "DUMP") rows) level.1 in
-    let rows_with_block = with_default given_rows block in
-    let rows_with_workers = with_default rows_with_block workers in
-    let in_block = one_of-accepted recording_rules rows block (Signed (pos 1) (pos MOST_STEPS)) level.0
-    EachKnown-recording.0.is_by_id refl
-    (has_row-defaults (codes "block") (workers ∷ skew ∷ binding ∷ dump ∷ help ∷ []) rows_with_block
-    (has_row-own_default given_rows block (codes "16384") [] refl)) in
-    let in_workers = one_of-accepted recording_rules rows workers (Signed (pos 1) (pos MOST_WORKERS)) level.0
-    EachKnown-recording.1.0.is_by_id refl
-    (has_row-defaults (codes "workers") (skew ∷ binding ∷ dump ∷ help ∷ []) rows_with_workers
-    (has_row-own_default rows_with_block workers (codes "4") [] refl)) in
-    let in_skew = one_of-accepted recording_rules rows skew (Unsigned 0 greatest_number) level.0
-    EachKnown-recording.1.1.0.is_by_id refl
-    (has_row-defaults (codes "skew") (binding ∷ dump ∷ help ∷ []) (with_default rows_with_workers skew)
-    (has_row-own_default rows_with_workers skew (codes "0") [] refl)) in
-    record {
-      options = record {
-        block = record { text = in_block.0; read = in_block.1; says = in_block.2 };
-        workers = record { text = in_workers.0; read = in_workers.1; says = in_workers.2 };
-        skew = record { text = in_skew.0; read = in_skew.1; says = in_skew.2 };
-      };
-      names = record {
-        binding = first_of-given recording_rules rows binding level.0 EachKnown-recording.1.1.1.0.is_by_id given.0;
-        dump = first_of-given recording_rules rows dump level.0 EachKnown-recording.1.1.1.1.0.is_by_id given.1;
-      };
-    }
+    HasOptionsAndNames-judging (help ∷ []) words EachKnown-recording level.0
+    (check_kinds-two (is_given (codes "BINDING") rows) (is_given (codes "DUMP") rows) level.1)
 
 -- words of `list` without a fault give its options and the names of its files
 HasOptionsAndNames-list : (words : List Text) → level_fault of_list [] nothing_held words false [] ≡ []
@@ -484,34 +525,8 @@ HasOptionsAndNames-list : (words : List Text) → level_fault of_list [] nothing
 HasOptionsAndNames-list words e =
     let level = AllGood-level of_list words EachKnown-list e in
     let rows = rows_after listing_rules [] words in
-    let given_rows = (settled listing_rules (walk listing_rules [] nothing_held words).held).rows in
-    let given = check_kinds-two (is_given (codes "BINDING") rows) (is_given (codes "DUMP") rows) level.1 in
-    let rows_with_block = with_default given_rows block in
-    let rows_with_workers = with_default rows_with_block workers in
-    let in_block = one_of-accepted listing_rules rows block (Signed (pos 1) (pos MOST_STEPS)) level.0
-    EachKnown-list.0.is_by_id refl
-    (has_row-defaults (codes "block") (workers ∷ skew ∷ binding ∷ dump ∷ times ∷ help ∷ []) rows_with_block
-    (has_row-own_default given_rows block (codes "16384") [] refl)) in
-    let in_workers = one_of-accepted listing_rules rows workers (Signed (pos 1) (pos MOST_WORKERS)) level.0
-    EachKnown-list.1.0.is_by_id refl
-    (has_row-defaults (codes "workers") (skew ∷ binding ∷ dump ∷ times ∷ help ∷ []) rows_with_workers
-    (has_row-own_default rows_with_block workers (codes "4") [] refl)) in
-    let in_skew = one_of-accepted listing_rules rows skew (Unsigned 0 greatest_number) level.0
-    EachKnown-list.1.1.0.is_by_id
-    refl
-    (has_row-defaults (codes "skew") (binding ∷ dump ∷ times ∷ help ∷ []) (with_default rows_with_workers skew)
-    (has_row-own_default rows_with_workers skew (codes "0") [] refl)) in
-    record {
-      options = record {
-        block = record { text = in_block.0; read = in_block.1; says = in_block.2 };
-        workers = record { text = in_workers.0; read = in_workers.1; says = in_workers.2 };
-        skew = record { text = in_skew.0; read = in_skew.1; says = in_skew.2 };
-      };
-      names = record {
-        binding = first_of-given listing_rules rows binding level.0 EachKnown-list.1.1.1.0.is_by_id given.0;
-        dump = first_of-given listing_rules rows dump level.0 EachKnown-list.1.1.1.1.0.is_by_id given.1;
-      };
-    }
+    HasOptionsAndNames-judging (times ∷ help ∷ []) words EachKnown-list level.0
+    (check_kinds-two (is_given (codes "BINDING") rows) (is_given (codes "DUMP") rows) level.1)
 
 -- words of `confirm` without a fault give all that it needs
 HasConfirmation-confirm : (words : List Text) → level_fault confirmation [] nothing_held words false [] ≡ []
@@ -523,17 +538,12 @@ HasConfirmation-confirm words e =
     let given_rows = (settled confirmation_rules (walk confirmation_rules [] nothing_held words).held).rows in
     let given = check_kinds-three (is_given (codes "BINDING") rows) (is_given (codes "DUMP") rows)
     (is_given (codes "LISTING") rows) level.1 in
-    let in_skew = one_of-accepted confirmation_rules rows skew (Unsigned 0 greatest_number) level.0
-    EachKnown-confirm.0.is_by_id
-    refl
-    (has_row-defaults (codes "skew") (binding ∷ dump ∷ listing ∷ help ∷ []) (with_default given_rows skew)
-    (has_row-own_default given_rows skew (codes "0") [] refl)) in
     record {
-      skew = record { text = in_skew.0; read = in_skew.1; says = in_skew.2 };
-      names = record {
-        binding = first_of-given confirmation_rules rows binding level.0 EachKnown-confirm.1.0.is_by_id given.0;
-        dump = first_of-given confirmation_rules rows dump level.0 EachKnown-confirm.1.1.0.is_by_id given.1;
-      };
+      skew = HasUnsignedFrom-row confirmation_rules rows skew 0 level.0 EachKnown-confirm.0 refl
+          (has_row-defaults (codes "skew") (binding ∷ dump ∷ listing ∷ help ∷ []) (with_default given_rows skew)
+          (has_row-own_default given_rows skew (codes "0") [] refl));
+      names = HasNames-given confirmation_rules rows level.0 EachKnown-confirm.1.0 EachKnown-confirm.1.1.0
+          (given.0, given.1);
       listing = first_of-given confirmation_rules rows listing level.0 EachKnown-confirm.1.1.1.0.is_by_id given.2;
     }
 
@@ -548,32 +558,18 @@ HasAudit-audit words e =
     let rows_with_transfers = with_default given_rows transfers in
     let rows_before_skew = with_default (with_default rows_with_transfers allow) stop in
     let rows_with_skew = with_default rows_before_skew skew in
-    let in_transfers = one_of-accepted audit_rules rows transfers (Unsigned 0 greatest_number) level.0
-    EachKnown-audit.0.is_by_id refl
-    (has_row-defaults (codes "transfers")
-    (allow ∷ stop ∷ skew ∷ workers ∷ quiet ∷ junit ∷ binding ∷ dumps ∷ help ∷ []) rows_with_transfers
-    (has_row-own_default given_rows transfers (codes "1") [] refl)) in
-    let in_skew = one_of-accepted audit_rules rows skew (Unsigned 0 greatest_number) level.0
-    EachKnown-audit.1.1.1.0.is_by_id
-    refl
-    (has_row-defaults (codes "skew") (workers ∷ quiet ∷ junit ∷ binding ∷ dumps ∷ help ∷ []) rows_with_skew
-    (has_row-own_default rows_before_skew skew (codes "0") [] refl)) in
-    let in_workers = one_of-accepted audit_rules rows workers (Signed (pos 1) (pos MOST_WORKERS)) level.0
-    EachKnown-audit.1.1.1.1.0.is_by_id refl
-    (has_row-defaults (codes "workers") (quiet ∷ junit ∷ binding ∷ dumps ∷ help ∷ [])
-    (with_default rows_with_skew workers)
-    (has_row-own_default rows_with_skew workers (codes "4") [] refl)) in
-    let may_stop : MayHaveUnsignedFrom (codes "stop") 1 rows = elim
-    (one_of-accepted_or_none audit_rules rows stop (Unsigned 1 greatest_number)
-    level.0 EachKnown-audit.1.1.0.is_by_id refl) [
-      | inl none ↦ inl none
-      | inr n ↦ inr (record { text = n.0; read = n.1; says = n.2 })
-    ] in
     record {
-      transfers = record { text = in_transfers.0; read = in_transfers.1; says = in_transfers.2 };
-      stop = may_stop;
-      skew = record { text = in_skew.0; read = in_skew.1; says = in_skew.2 };
-      workers = record { text = in_workers.0; read = in_workers.1; says = in_workers.2 };
+      transfers = HasUnsignedFrom-row audit_rules rows transfers 0 level.0 EachKnown-audit.0 refl
+          (has_row-defaults (codes "transfers")
+          (allow ∷ stop ∷ skew ∷ workers ∷ quiet ∷ junit ∷ binding ∷ dumps ∷ help ∷ []) rows_with_transfers
+          (has_row-own_default given_rows transfers (codes "1") [] refl));
+      stop = MayHaveUnsignedFrom-good audit_rules rows stop 1 level.0 EachKnown-audit.1.1.0 refl;
+      skew = HasUnsignedFrom-row audit_rules rows skew 0 level.0 EachKnown-audit.1.1.1.0 refl
+          (has_row-defaults (codes "skew") (workers ∷ quiet ∷ junit ∷ binding ∷ dumps ∷ help ∷ []) rows_with_skew
+          (has_row-own_default rows_before_skew skew (codes "0") [] refl));
+      workers = HasSignedIn-row audit_rules rows workers 1 MOST_WORKERS level.0 EachKnown-audit.1.1.1.1.0 refl
+          (has_row-defaults (codes "workers") (quiet ∷ junit ∷ binding ∷ dumps ∷ help ∷ [])
+          (with_default rows_with_skew workers) (has_row-own_default rows_with_skew workers (codes "4") [] refl));
       binding = first_of-given audit_rules rows binding level.0 EachKnown-audit.1.1.1.1.1.1.1.0.is_by_id given.0;
     }
 
@@ -615,16 +611,11 @@ HasSkewAndNames-explain words e =
     let given_rows = (settled explain_rules (walk explain_rules [] nothing_held words).held).rows in
     let given = check_kinds-two (is_given (codes "BINDING") rows) (is_given (codes "DUMP") rows) level.1 in
     let rows_with_files = with_default (with_default given_rows save_file) picture in
-    let in_skew = one_of-accepted explain_rules rows skew (Unsigned 0 greatest_number) level.0
-    EachKnown-explain.1.1.0.is_by_id refl
-    (has_row-defaults (codes "skew") (binding ∷ dump ∷ help ∷ []) (with_default rows_with_files skew)
-    (has_row-own_default rows_with_files skew (codes "0") [] refl)) in
     record {
-      skew = record { text = in_skew.0; read = in_skew.1; says = in_skew.2 };
-      names = record {
-        binding = first_of-given explain_rules rows binding level.0 EachKnown-explain.1.1.1.0.is_by_id given.0;
-        dump = first_of-given explain_rules rows dump level.0 EachKnown-explain.1.1.1.1.0.is_by_id given.1;
-      };
+      skew = HasUnsignedFrom-row explain_rules rows skew 0 level.0 EachKnown-explain.1.1.0 refl
+          (has_row-defaults (codes "skew") (binding ∷ dump ∷ help ∷ []) (with_default rows_with_files skew)
+          (has_row-own_default rows_with_files skew (codes "0") [] refl));
+      names = HasNames-given explain_rules rows level.0 EachKnown-explain.1.1.1.0 EachKnown-explain.1.1.1.1.0 given;
     }
 
 -- words of `annotate` without a fault give its skew and the names of its files
@@ -635,17 +626,11 @@ HasSkewAndNames-annotate words e =
     let rows = rows_after annotate_rules [] words in
     let given_rows = (settled annotate_rules (walk annotate_rules [] nothing_held words).held).rows in
     let given = check_kinds-two (is_given (codes "BINDING") rows) (is_given (codes "DUMP") rows) level.1 in
-    let in_skew = one_of-accepted annotate_rules rows skew (Unsigned 0 greatest_number) level.0
-    EachKnown-annotate.0.is_by_id
-    refl
-    (has_row-defaults (codes "skew") (binding ∷ dump ∷ help ∷ []) (with_default given_rows skew)
-    (has_row-own_default given_rows skew (codes "0") [] refl)) in
     record {
-      skew = record { text = in_skew.0; read = in_skew.1; says = in_skew.2 };
-      names = record {
-        binding = first_of-given annotate_rules rows binding level.0 EachKnown-annotate.1.0.is_by_id given.0;
-        dump = first_of-given annotate_rules rows dump level.0 EachKnown-annotate.1.1.0.is_by_id given.1;
-      };
+      skew = HasUnsignedFrom-row annotate_rules rows skew 0 level.0 EachKnown-annotate.0 refl
+          (has_row-defaults (codes "skew") (binding ∷ dump ∷ help ∷ []) (with_default given_rows skew)
+          (has_row-own_default given_rows skew (codes "0") [] refl));
+      names = HasNames-given annotate_rules rows level.0 EachKnown-annotate.1.0 EachKnown-annotate.1.1.0 given;
     }
 
 -- words of `part` without a fault give all that it needs
@@ -656,16 +641,11 @@ HasPart-part words e =
     let rows = rows_after part_rules [] words in
     let given_rows = (settled part_rules (walk part_rules [] nothing_held words).held).rows in
     let given = check_kinds-two (is_given (codes "BINDING") rows) (is_given (codes "DUMP") rows) level.1 in
-    let in_number = one_of-accepted part_rules rows file_number (Signed (pos 0) (pos greatest_file_number)) level.0
-    EachKnown-part.0.is_by_id refl
-    (has_row-defaults (codes "number") (marks ∷ binding ∷ dump ∷ help ∷ []) (with_default given_rows file_number)
-    (has_row-own_default given_rows file_number (codes "0") [] refl)) in
     record {
-      number = record { text = in_number.0; read = in_number.1; says = in_number.2 };
-      names = record {
-        binding = first_of-given part_rules rows binding level.0 EachKnown-part.1.1.0.is_by_id given.0;
-        dump = first_of-given part_rules rows dump level.0 EachKnown-part.1.1.1.0.is_by_id given.1;
-      };
+      number = HasSignedIn-row part_rules rows file_number 0 greatest_file_number level.0 EachKnown-part.0 refl
+          (has_row-defaults (codes "number") (marks ∷ binding ∷ dump ∷ help ∷ []) (with_default given_rows file_number)
+          (has_row-own_default given_rows file_number (codes "0") [] refl));
+      names = HasNames-given part_rules rows level.0 EachKnown-part.1.1.0 EachKnown-part.1.1.1.0 given;
     }
 
 -- words of `tell` without a fault give a number of files from 1 on, or none
@@ -673,13 +653,7 @@ MayHaveUnsignedFrom-tell : (words : List Text) → level_fault of_tell [] nothin
     → MayHaveUnsignedFrom (codes "files") 1 (rows_after tell_rules [] words)
 MayHaveUnsignedFrom-tell words e =
     let level = AllGood-level of_tell words EachKnown-tell e in
-    let rows = rows_after tell_rules [] words in
-    elim (one_of-accepted_or_none tell_rules rows file_count (Unsigned 1 greatest_number) level.0
-    EachKnown-tell.1.0.is_by_id
-    refl) [
-      | inl none ↦ inl none
-      | inr n ↦ inr (record { text = n.0; read = n.1; says = n.2 })
-    ]
+    MayHaveUnsignedFrom-good tell_rules (rows_after tell_rules [] words) file_count 1 level.0 EachKnown-tell.1.0 refl
 
 -- ---- the words
 
