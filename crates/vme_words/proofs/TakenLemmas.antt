@@ -20,10 +20,11 @@ use Rattle.vme_words.specs.Commands.{explain_app, faults_app, file_count_rule, f
 use Rattle.vme_words.specs.Commands.{flag_rule, greatest_file_number, greatest_number, join_app, list_app, part_app}
 use Rattle.vme_words.specs.Commands.{recording_app, rules_app, skew_rule, slots_rule, stop_rule, tell_app}
 use Rattle.vme_words.specs.Commands.{transfers_rule, variables_app, vmecheck_app, word_rule, workers_rule}
-use Rattle.vme_words.specs.Orders.{HasAudit, HasBind, HasConfirmation, HasName, HasNames, HasOptionsAndNames, HasOrder}
-use Rattle.vme_words.specs.Orders.{HasPart, HasSignedIn, HasSkewAndNames, HasUnsignedFrom, MayHaveSignedIn}
-use Rattle.vme_words.specs.Orders.{MayHaveUnsignedFrom}
+use Rattle.vme_words.specs.Orders.{HasAll, HasAudit, HasBind, HasConfirmation, HasName, HasNames, HasOptionsAndNames}
+use Rattle.vme_words.specs.Orders.{HasOrder, HasPart, HasSignedIn, HasSkewAndNames, HasUnsignedFrom, MayHaveSignedIn}
+use Rattle.vme_words.specs.Orders.{MayHaveUnsignedFrom, task_name}
 use Rattle.vme_words.specs.declared.limits.TheConstants.{MOST_SLOTS, MOST_STEPS, MOST_WORKERS}
+use Rattle.vme_words.specs.declared.order.Task.{Task}
 use Rattle.vme_words.specs.declared.order.Task.TheVariants.{Annotate, Audit, Bind, Check, Confirm, Explain, Faults}
 use Rattle.vme_words.specs.declared.order.Task.TheVariants.{Join, List as Listing, Part, Rules, Tell, Variables}
 use Rattle.vme_words.proofs.RowLemmas.{AllGood, EachKnown, Known, NamesNoHelp, or_else-none, has_row-own_default}
@@ -734,114 +735,68 @@ HasOrder-of_app a words makes helps wants e =
     below.0
     (check_kinds-entered (is_some (entered a stop)) _ a.top.subcommand_required _ wants last.1)
 
+-- words without a fault, after a subcommand with the name of a task, give an order if they give what the task needs
+Makes-task : (s : Shape) (task : Task) → s.name ≡ task_name task
+    → ((words : List Text) → level_fault s [] nothing_held words false [] ≡ []
+    → HasAll task (rows_after s.rules [] words)) → Makes s
+Makes-task s task named has words e = inl (record {
+  task = task;
+  rows = rows_after s.rules [] words;
+  command = λ i. Some (named i, rows_after s.rules [] words);
+  has = has words e;
+})
+
 -- words of `check` without a fault give an order
 Makes-check : Makes (recording (codes "check"))
-Makes-check words e = inl (record {
-  task = Check;
-  rows = rows_after recording_rules [] words;
-  command = refl;
-  has
-      = HasOptionsAndNames-recording (codes "check") words e;
-})
+Makes-check = Makes-task (recording (codes "check")) Check refl (HasOptionsAndNames-recording (codes "check"))
 
 -- words of `list` without a fault give an order
 Makes-list : Makes of_list
-Makes-list words e = inl (record {
-  task = Listing;
-  rows = rows_after listing_rules [] words;
-  command = refl;
-  has = HasOptionsAndNames-list words e;
-})
+Makes-list = Makes-task of_list Listing refl HasOptionsAndNames-list
 
 -- words of `confirm` without a fault give an order
 Makes-confirm : Makes confirmation
-Makes-confirm words e = inl (record {
-  task = Confirm;
-  rows = rows_after confirmation_rules [] words;
-  command = refl;
-  has
-      = HasConfirmation-confirm words e;
-})
+Makes-confirm = Makes-task confirmation Confirm refl HasConfirmation-confirm
 
 -- words of `audit` without a fault give an order
 Makes-audit : Makes of_audit
-Makes-audit words e = inl (record {
-  task = Audit;
-  rows = rows_after audit_rules [] words;
-  command = refl;
-  has
-      = HasAudit-audit words e;
-})
+Makes-audit = Makes-task of_audit Audit refl HasAudit-audit
 
 -- words of `rules` without a fault give an order
 Makes-rules : Makes of_rules
-Makes-rules words e = inl (record { task = Rules; rows = rows_after rules_rules [] words; command = refl; has = tt })
+Makes-rules = Makes-task of_rules Rules refl (λ _ _. tt)
 
 -- words of `faults` without a fault give an order
 Makes-faults : Makes of_faults
-Makes-faults words e = inl (record { task = Faults; rows = rows_after faults_rules [] words; command = refl; has = tt })
+Makes-faults = Makes-task of_faults Faults refl (λ _ _. tt)
 
 -- words of `variables` without a fault give an order
 Makes-variables : Makes of_variables
-Makes-variables words e = inl (record {
-  task = Variables;
-  rows = rows_after variables_rules [] words;
-  command = refl;
-  has = HasName-variables words e;
-})
+Makes-variables = Makes-task of_variables Variables refl HasName-variables
 
 -- words of `bind` without a fault give an order
 Makes-bind : Makes of_bind
-Makes-bind words e = inl (record {
-  task = Bind;
-  rows = rows_after bind_rules [] words;
-  command = refl;
-  has = HasBind-bind
-      words e;
-})
+Makes-bind = Makes-task of_bind Bind refl HasBind-bind
 
 -- words of `explain` without a fault give an order
 Makes-explain : Makes of_explain
-Makes-explain words e = inl (record {
-  task = Explain;
-  rows = rows_after explain_rules [] words;
-  command = refl;
-  has
-      = HasSkewAndNames-explain words e;
-})
+Makes-explain = Makes-task of_explain Explain refl HasSkewAndNames-explain
 
 -- words of `annotate` without a fault give an order
 Makes-annotate : Makes of_annotate
-Makes-annotate words e = inl (record {
-  task = Annotate;
-  rows = rows_after annotate_rules [] words;
-  command = refl;
-  has = HasSkewAndNames-annotate words e;
-})
+Makes-annotate = Makes-task of_annotate Annotate refl HasSkewAndNames-annotate
 
 -- words of `part` without a fault give an order
 Makes-part : Makes of_part
-Makes-part words e = inl (record {
-  task = Part;
-  rows = rows_after part_rules [] words;
-  command = refl;
-  has
-      = HasPart-part words e;
-})
+Makes-part = Makes-task of_part Part refl HasPart-part
 
 -- words of `join` without a fault give an order
 Makes-join : Makes of_join
-Makes-join words e = inl (record { task = Join; rows = rows_after join_rules [] words; command = refl; has = tt })
+Makes-join = Makes-task of_join Join refl (λ _ _. tt)
 
 -- words of `tell` without a fault give an order
 Makes-tell : Makes of_tell
-Makes-tell words e = inl (record {
-  task = Tell;
-  rows = rows_after tell_rules [] words;
-  command = refl;
-  has
-      = MayHaveUnsignedFrom-tell words e;
-})
+Makes-tell = Makes-task of_tell Tell refl MayHaveUnsignedFrom-tell
 
 -- `Makes` holds of the subcommand `help`, which gives no order
 Makes-help : Makes (built_leaf help_shape)
