@@ -129,7 +129,14 @@ pub(crate) fn list_command<'a>(alloc: Global) -> Result<Command<'a>, AllocError>
         "list",
         "Lists the tenures, cycles and transfers of a recording, and its verdict",
     );
-    with_arg(command, times_flag(alloc))
+    with_arg(
+        command,
+        flag(
+            alloc,
+            "times",
+            "Writes the time of each instant, too; confirm doesn't take such a listing",
+        ),
+    )
 }
 
 /// A command with the options of judging, a binding and a dump.
@@ -177,8 +184,22 @@ pub(crate) fn audit_command<'a>(alloc: Global) -> Result<Command<'a>, AllocError
     let command = with_arg(command, stop_option(alloc));
     let command = with_arg(command, skew_option(alloc));
     let command = with_arg(command, workers_option(alloc));
-    let command = with_arg(command, quiet_flag(alloc));
-    let command = with_arg(command, junit_option(alloc));
+    let command = with_arg(
+        command,
+        flag(
+            alloc,
+            "quiet",
+            "Writes the breaks and the outcome, without counts",
+        ),
+    );
+    let command = with_arg(
+        command,
+        word_option(
+            alloc,
+            "junit",
+            "A JUnit file to write at the end, with one test case for each dump",
+        ),
+    );
     let command = with_arg(command, binding_file(alloc));
     with_arg(command, dump_files(alloc))
 }
@@ -226,7 +247,14 @@ pub(crate) fn bind_command<'a>(alloc: Global) -> Result<Command<'a>, AllocError>
         "Writes a binding for a dump, by the names of its variables",
     );
     let command = with_arg(command, slots_option(alloc));
-    let command = with_arg(command, scope_option(alloc));
+    let command = with_arg(
+        command,
+        word_option(
+            alloc,
+            "scope",
+            "The scope whose lines are bound, by its path; else the one that holds most of them",
+        ),
+    );
     with_arg(command, dump_file(alloc))
 }
 
@@ -239,8 +267,22 @@ pub(crate) fn explain_command<'a>(alloc: Global) -> Result<Command<'a>, AllocErr
         "explain",
         "Judges a recording, and says why and where",
     );
-    let command = with_arg(command, save_file_option(alloc));
-    let command = with_arg(command, picture_option(alloc));
+    let command = with_arg(
+        command,
+        word_option(
+            alloc,
+            "gtkw",
+            "A file to write for the waveform viewer, with a marker at the break",
+        ),
+    );
+    let command = with_arg(
+        command,
+        word_option(
+            alloc,
+            "svg",
+            "An SVG file to write, with a picture of the lines around the break",
+        ),
+    );
     let command = with_arg(command, skew_option(alloc));
     let command = with_arg(command, binding_file(alloc));
     with_arg(command, dump_file(alloc))
@@ -270,7 +312,14 @@ pub(crate) fn part_command<'a>(alloc: Global) -> Result<Command<'a>, AllocError>
         "Judges a file of a recording, whatever stood before it, and writes its part",
     );
     let command = with_arg(command, number_option(alloc));
-    let command = with_arg(command, marks_flag(alloc));
+    let command = with_arg(
+        command,
+        flag(
+            alloc,
+            "listing",
+            "Keeps the marks that a listing is made of",
+        ),
+    );
     let command = with_arg(command, binding_file(alloc));
     with_arg(command, dump_file(alloc))
 }
@@ -292,7 +341,10 @@ pub(crate) fn tell_command<'a>(alloc: Global) -> Result<Command<'a>, AllocError>
         "tell",
         "Tells the verdict of a whole recording by its parts, or writes its listing",
     );
-    let command = with_arg(command, list_flag(alloc));
+    let command = with_arg(
+        command,
+        flag(alloc, "list", "Writes the listing in place of the verdict"),
+    );
     let command = with_arg(command, files_option(alloc));
     with_arg(command, part_files(alloc))
 }
@@ -318,26 +370,6 @@ fn files_option<'a>(alloc: Global) -> Arg<'a>
         .help("How many files the recording has; else it ends with the last file that has a part")
 }
 
-fn marks_flag<'a>(alloc: Global) -> Arg<'a>
-    ensures rule { rule_of result ≡ flag_rule (codes "listing") }
-    ensures local { result.global ≡ false }
-{
-    Arg::new(alloc, "listing")
-        .long("listing")
-        .action(ArgAction::SetTrue)
-        .help("Keeps the marks that a listing is made of")
-}
-
-fn list_flag<'a>(alloc: Global) -> Arg<'a>
-    ensures rule { rule_of result ≡ flag_rule (codes "list") }
-    ensures local { result.global ≡ false }
-{
-    Arg::new(alloc, "list")
-        .long("list")
-        .action(ArgAction::SetTrue)
-        .help("Writes the listing in place of the verdict")
-}
-
 fn part_files<'a>(alloc: Global) -> Arg<'a>
     ensures rule { rule_of result ≡ files_rule (codes "PART") }
     ensures local { result.global ≡ false }
@@ -353,33 +385,6 @@ fn slots_option<'a>(alloc: Global) -> Arg<'a>
         .long("slots")
         .value_parser(value_parser!(u32).range(1..=MOST_SLOTS as i64))
         .help("How many slots the backplane has, 1 to 21; else the daisy chains show it")
-}
-
-fn scope_option<'a>(alloc: Global) -> Arg<'a>
-    ensures rule { rule_of result ≡ word_rule (codes "scope") }
-    ensures local { result.global ≡ false }
-{
-    Arg::new(alloc, "scope").long("scope").help(
-        "The scope whose lines are bound, by its path; else the one that holds most of them",
-    )
-}
-
-fn save_file_option<'a>(alloc: Global) -> Arg<'a>
-    ensures rule { rule_of result ≡ word_rule (codes "gtkw") }
-    ensures local { result.global ≡ false }
-{
-    Arg::new(alloc, "gtkw").long("gtkw").help(
-        "A file to write for the waveform viewer, with a marker at the break",
-    )
-}
-
-fn picture_option<'a>(alloc: Global) -> Arg<'a>
-    ensures rule { rule_of result ≡ word_rule (codes "svg") }
-    ensures local { result.global ≡ false }
-{
-    Arg::new(alloc, "svg").long("svg").help(
-        "An SVG file to write, with a picture of the lines around the break",
-    )
 }
 
 fn binding_file<'a>(alloc: Global) -> Arg<'a>
@@ -474,35 +479,6 @@ fn stop_option<'a>(alloc: Global) -> Arg<'a>
         )
 }
 
-fn quiet_flag<'a>(alloc: Global) -> Arg<'a>
-    ensures rule { rule_of result ≡ flag_rule (codes "quiet") }
-    ensures local { result.global ≡ false }
-{
-    Arg::new(alloc, "quiet")
-        .long("quiet")
-        .action(ArgAction::SetTrue)
-        .help("Writes the breaks and the outcome, without counts")
-}
-
-fn times_flag<'a>(alloc: Global) -> Arg<'a>
-    ensures rule { rule_of result ≡ flag_rule (codes "times") }
-    ensures local { result.global ≡ false }
-{
-    Arg::new(alloc, "times")
-        .long("times")
-        .action(ArgAction::SetTrue)
-        .help("Writes the time of each instant, too; confirm doesn't take such a listing")
-}
-
-fn junit_option<'a>(alloc: Global) -> Arg<'a>
-    ensures rule { rule_of result ≡ word_rule (codes "junit") }
-    ensures local { result.global ≡ false }
-{
-    Arg::new(alloc, "junit").long("junit").help(
-        "A JUnit file to write at the end, with one test case for each dump",
-    )
-}
-
 fn dump_files<'a>(alloc: Global) -> Arg<'a>
     ensures rule { rule_of result ≡ files_rule (codes "DUMP") }
     ensures local { result.global ≡ false }
@@ -513,6 +489,27 @@ fn dump_files<'a>(alloc: Global) -> Arg<'a>
         "The files of the recordings, value change dumps; - is standard input",
     )
     .num_args(1..)
+}
+
+/// A flag: an option without a value, which may be left out.
+fn flag<'a>(alloc: Global, name: &'a str, help: &'a str) -> Arg<'a>
+    ensures rule { rule_of result ≡ flag_rule name.entry.now }
+    ensures local { result.global ≡ false }
+    ensures help { result.help ≡ Some help.entry }
+{
+    Arg::new(alloc, name)
+        .long(name)
+        .action(ArgAction::SetTrue)
+        .help(help)
+}
+
+/// An option with any text as its value, which may be left out.
+fn word_option<'a>(alloc: Global, name: &'a str, help: &'a str) -> Arg<'a>
+    ensures rule { rule_of result ≡ word_rule name.entry.now }
+    ensures local { result.global ≡ false }
+    ensures help { result.help ≡ Some help.entry }
+{
+    Arg::new(alloc, name).long(name).help(help)
 }
 
 /// A file argument, which has to be given.

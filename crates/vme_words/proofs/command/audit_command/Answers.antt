@@ -15,9 +15,9 @@ returns c =
     let workers = c.with_arg-command-5.ensures _ workers_rule skew
     c.workers_option.ensures.rule c.workers_option.ensures.local in
     let quiet = c.with_arg-command-6.ensures _ (flag_rule (codes "quiet")) workers
-    c.quiet_flag.ensures.rule c.quiet_flag.ensures.local in
+    c.flag.ensures.rule c.flag.ensures.local in
     let junit = c.with_arg-command-7.ensures _ (word_rule (codes "junit")) quiet
-    c.junit_option.ensures.rule c.junit_option.ensures.local in
+    c.word_option.ensures.rule c.word_option.ensures.local in
     let binding = c.with_arg-command-8.ensures _ (file_rule (codes "BINDING")) junit
     c.binding_file.ensures.rule c.binding_file.ensures.local in
     c.with_arg.ensures _ (files_rule (codes "DUMP")) binding c.dump_files.ensures.rule c.dump_files.ensures.local

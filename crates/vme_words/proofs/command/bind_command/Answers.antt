@@ -8,5 +8,5 @@ returns c =
     let slots = c.with_arg-command.ensures (new_app (codes "bind")) slots_rule
     c.new_command-command.ensures c.slots_option.ensures.rule c.slots_option.ensures.local in
     let scope = c.with_arg-command-2.ensures _ (word_rule (codes "scope")) slots
-    c.scope_option.ensures.rule c.scope_option.ensures.local in
+    c.word_option.ensures.rule c.word_option.ensures.local in
     c.with_arg.ensures _ (file_rule (codes "DUMP")) scope c.dump_file.ensures.rule c.dump_file.ensures.local

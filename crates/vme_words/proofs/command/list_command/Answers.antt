@@ -5,4 +5,4 @@ use Rattle.vme_words.proofs.command.list_command.Goals as goal
 pub returns : goal.returns
 returns c =
     c.with_arg.ensures (recording_app (codes "list")) (flag_rule (codes "times")) c.recording_command-command.ensures
-    c.times_flag.ensures.rule c.times_flag.ensures.local
+    c.flag.ensures.rule c.flag.ensures.local

@@ -8,7 +8,7 @@ returns c =
     let number = c.with_arg-command.ensures (new_app (codes "part")) file_number_rule
     c.new_command-command.ensures c.number_option.ensures.rule c.number_option.ensures.local in
     let marks = c.with_arg-command-2.ensures _ (flag_rule (codes "listing")) number
-    c.marks_flag.ensures.rule c.marks_flag.ensures.local in
+    c.flag.ensures.rule c.flag.ensures.local in
     let binding = c.with_arg-command-3.ensures _ (file_rule (codes "BINDING")) marks
     c.binding_file.ensures.rule c.binding_file.ensures.local in
     c.with_arg.ensures _ (file_rule (codes "DUMP")) binding c.dump_file.ensures.rule c.dump_file.ensures.local

@@ -6,7 +6,7 @@ use Rattle.vme_words.proofs.command.tell_command.Goals as goal
 pub returns : goal.returns
 returns c =
     let list = c.with_arg-command.ensures (new_app (codes "tell")) (flag_rule (codes "list"))
-    c.new_command-command.ensures c.list_flag.ensures.rule c.list_flag.ensures.local in
+    c.new_command-command.ensures c.flag.ensures.rule c.flag.ensures.local in
     let files = c.with_arg-command-2.ensures _ file_count_rule list
     c.files_option.ensures.rule c.files_option.ensures.local in
     c.with_arg.ensures _ (files_rule (codes "PART")) files c.part_files.ensures.rule c.part_files.ensures.local
