@@ -512,20 +512,19 @@ fn fault_under(command: Result<Command<'_>, AllocError>, message: &str) -> Order
     ensures of_words { IsOfWords result }
     ensures kind { HasUsageKind ErrorKind.InvalidSubcommand result }
 {
-    match usage_error(command, message) {
+    let Ok(mut command) = command else {
+        return OrderFault::Memory;
+    };
+    match usage_error(&mut command, message) {
         Ok(error) => OrderFault::Usage(error),
         Err(_) => OrderFault::Memory,
     }
 }
 
 /// A usage error of `command`, with the text `message`. It fails if memory runs out.
-fn usage_error(
-    command: Result<Command<'_>, AllocError>,
-    message: &str,
-) -> Result<clap::Error, AllocError>
+fn usage_error(command: &mut Command<'_>, message: &str) -> Result<clap::Error, AllocError>
     ensures { IfOk result (λ error. kind_of error ≡ ErrorKind.InvalidSubcommand) }
 {
-    let mut command = command?;
     command.error(ErrorKind::InvalidSubcommand, message)
 }
 
