@@ -197,12 +197,11 @@ fn audit_order(alloc: Global, found: &ArgMatches<'_>) -> Result<Option<Order>, A
     let Some(workers) = number(found, "workers", 1, MOST_WORKERS) else {
         return Ok(None);
     };
-    let Some(binding) = value_of(alloc, found, "BINDING")? else {
+    let Some(files) = audited_files(alloc, found)? else {
         return Ok(None);
     };
-    let allowed = texts_of(alloc, found, "allow")?;
-    let junit = value_of(alloc, found, "junit")?;
-    let dumps = texts_of(alloc, found, "DUMP")?;
+    let (binding, dumps) = files;
+    let (allowed, junit) = audit_texts(alloc, found)?;
     Ok(Some(Order::Audit(AuditOrder {
         transfers,
         allowed,
@@ -214,6 +213,39 @@ fn audit_order(alloc: Global, found: &ArgMatches<'_>) -> Result<Option<Order>, A
         binding,
         dumps,
     })))
+}
+
+/// The names of the binding and of the dumps of an audit, if the binding is named.
+fn audited_files(
+    alloc: Global,
+    found: &ArgMatches<'_>,
+) -> Result<Option<(String, Vec<String>)>, AllocError>
+    ensures binding { IfOk result (λ o. IfSome o (λ files. Some (string_bytes files.0)
+        ≡ first_of (codes "BINDING") (rows_of (found_of found.now)))) }
+    ensures dumps { IfOk result (λ o. IfSome o (λ files. map string_bytes files.1.items
+        ≡ texts_in (codes "DUMP") (rows_of (found_of found.now)))) }
+    ensures found { HasName (codes "BINDING") (rows_of (found_of found.now)) → IfOk result (λ o. is_some o ≡ true) }
+{
+    let Some(binding) = value_of(alloc, found, "BINDING")? else {
+        return Ok(None);
+    };
+    let dumps = texts_of(alloc, found, "DUMP")?;
+    Ok(Some((binding, dumps)))
+}
+
+/// The breaks that an audit allows, and the name of its JUnit file, if one is named.
+fn audit_texts(
+    alloc: Global,
+    found: &ArgMatches<'_>,
+) -> Result<(Vec<String>, Option<String>), AllocError>
+    ensures allowed { IfOk result (λ texts. map string_bytes texts.0.items
+        ≡ texts_in (codes "allow") (rows_of (found_of found.now))) }
+    ensures junit { IfOk result (λ texts. option_map string_bytes texts.1
+        ≡ first_of (codes "junit") (rows_of (found_of found.now))) }
+{
+    let allowed = texts_of(alloc, found, "allow")?;
+    let junit = value_of(alloc, found, "junit")?;
+    Ok((allowed, junit))
 }
 
 /// The order that the matches of `rules` stand for.
