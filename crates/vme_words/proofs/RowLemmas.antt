@@ -1,12 +1,14 @@
 -- The rows that a parse without a fault leaves: each row of an argument has a text, and its texts pass the argument's
 -- parser.
 use Rattle.std.proofs.Common.{◌≡◌, ◌∙◌, ◌⊎◌, inl, inr, ◌<◌, ◌&&◌, ◌||◌, ℕ, Bool, true, false, zero, suc, refl, sym}
-use Rattle.std.proofs.Common.{ap, subst, arith}
+use Rattle.std.proofs.Common.{ap, subst, arith, append_assoc, not, ◌==◌}
 use Rattle.std.proofs.Common.{codes, List, [], ◌∷◌, ◌++◌, length, drop, Option, Some, None, is_some, true≢false}
 use Rattle.std.specs.Prelude.{cond, find, fold, if◌then◌else◌, slice_get, unwrap_or, encode_utf8}
 use Rattle.std.specs.Option.{option_map_or}
 use Rattle.std.specs.List.{list_all}
 use Rattle.std.specs.Str.{bytes_eq, chars}
+use Rattle.std.proofs.lemmas.Bool.{not-true}
+use Rattle.std.proofs.lemmas.Bool.Decides.{Decides-eqb}
 use Rattle.std.proofs.lemmas.Slice.Eq.{bytes_eq-Decides}
 use Rattle.clap.specs.Lexer.{long_of, short_of}
 use Rattle.clap.specs.Values.{Accepts, read_as, reading_of}
@@ -174,6 +176,62 @@ Known-found c (x ∷ xs) p a known e = go (p x) e (λ f. Known-found c xs p a kn
     go : (t : Bool) → cond t (Some x) (find p xs) ≡ Some a → (find p xs ≡ Some a → Known c a) → Known c a
     go true e rest = subst (Known c) (some-same_rule x a e) known.0
     go false e rest = rest e
+
+-- ---- a test by which each argument is known
+
+-- none of the arguments has this id
+abbrev pub lacks_id : List Rule → Text → Bool
+lacks_id [] id = true
+lacks_id (a ∷ rest) id = not (bytes_eq a.id id) && lacks_id rest id
+
+-- an argument with this action is as `Acts` says
+abbrev pub acts_well : ArgAction → Rule → Bool
+acts_well action.Set a = (unwrap_or_range a.range).start_inclusive == 1
+acts_well action.Append a = (unwrap_or_range a.range).start_inclusive == 1
+acts_well action.SetTrue a = not (is_empty a.missing)
+acts_well action.Help a = true
+acts_well _ a = false
+
+-- each argument has an id that none before it has, neither among these nor in `before`, is as `Acts` says, and its
+-- default values pass its parser
+abbrev pub each_known : List Rule → List Rule → Bool
+each_known [] before = true
+each_known (a ∷ rest) before =
+    (lacks_id before a.id && (acts_well (action_of a) a && values_pass a a.defaults))
+    && each_known rest (before ++ a ∷ [])
+
+-- an argument that passes the test is as `Acts` says
+Acts-of_test : (x : ArgAction) (a : Rule) → acts_well x a ≡ true → Acts x a
+Acts-of_test action.Set a e = (Decides-eqb (unwrap_or_range a.range).start_inclusive 1).0 e
+Acts-of_test action.Append a e = (Decides-eqb (unwrap_or_range a.range).start_inclusive 1).0 e
+Acts-of_test action.SetTrue a e = not-true (is_empty a.missing) e
+Acts-of_test action.Help a e = tt
+Acts-of_test _ a e = absurd (true≢false (sym e))
+
+-- an argument with an id that none before it has is the one with its id
+arg_by_id-first : (before : List Rule) (a : Rule) (rest : List Rule) → lacks_id before a.id ≡ true
+    → arg_by_id (before ++ a ∷ rest) a.id ≡ Some a
+arg_by_id-first [] a rest e = rw ((bytes_eq-Decides a.id a.id).1 refl) refl
+arg_by_id-first (b ∷ before) a rest e =
+    let parts = both (not (bytes_eq b.id a.id)) (lacks_id before a.id) e in
+    rw (not-true (bytes_eq b.id a.id) parts.0) (arg_by_id-first before a rest parts.1)
+
+-- arguments that pass the test are known
+pub EachKnown-of_test : (xs before : List Rule) → each_known xs before ≡ true → EachKnown (before ++ xs) xs
+EachKnown-of_test [] before e = tt
+EachKnown-of_test (a ∷ rest) before e =
+    let parts = both (lacks_id before a.id && (acts_well (action_of a) a && values_pass a a.defaults))
+    (each_known rest (before ++ a ∷ [])) e in
+    let own = both (lacks_id before a.id) (acts_well (action_of a) a && values_pass a a.defaults) parts.0 in
+    let well = both (acts_well (action_of a) a) (values_pass a a.defaults) own.1 in (
+      record {
+        is_by_id = arg_by_id-first before a rest own.0;
+        acts = Acts-of_test (action_of a) a well.0;
+        defaults = well.1;
+      },
+      subst (λ (c : List Rule). EachKnown c rest) (append_assoc before (a ∷ []) rest)
+          (EachKnown-of_test rest (before ++ a ∷ []) parts.1),
+    )
 
 -- ---- one use of an argument
 

@@ -27,8 +27,8 @@ use Rattle.vme_words.specs.declared.limits.TheConstants.{MOST_SLOTS, MOST_STEPS,
 use Rattle.vme_words.specs.declared.order.Task.{Task}
 use Rattle.vme_words.specs.declared.order.Task.TheVariants.{Annotate, Audit, Bind, Check, Confirm, Explain, Faults}
 use Rattle.vme_words.specs.declared.order.Task.TheVariants.{Join, List as Listing, Part, Rules, Tell, Variables}
-use Rattle.vme_words.proofs.RowLemmas.{AllGood, EachKnown, Known, NamesNoHelp, or_else-none, has_row-own_default}
-use Rattle.vme_words.proofs.RowLemmas.{has_row-defaults}
+use Rattle.vme_words.proofs.RowLemmas.{AllGood, EachKnown, EachKnown-of_test, Known, NamesNoHelp, or_else-none}
+use Rattle.vme_words.proofs.RowLemmas.{has_row-own_default, has_row-defaults}
 use Rattle.vme_words.proofs.RowLemmas.{first_of-given}
 use Rattle.vme_words.proofs.RowLemmas.{AllGood-level, one_of-accepted_or_none, one_of-accepted, NamesNoHelp-walked}
 
@@ -253,181 +253,52 @@ tell_rules = list ∷ file_count ∷ parts ∷ help ∷ []
 -- each argument of a subcommand that judges a recording is known
 EachKnown-recording : EachKnown recording_rules recording_rules
 unfolding clap_on_literals
-EachKnown-recording = (
-  record { is_by_id = refl; acts = refl; defaults = refl },
-  (
-    record { is_by_id = refl; acts = refl; defaults = refl },
-    (
-      record { is_by_id = refl; acts = refl; defaults = refl },
-      (
-        record { is_by_id = refl; acts = refl; defaults = refl },
-        (
-          record { is_by_id = refl; acts = refl; defaults = refl },
-          (record { is_by_id = refl; acts = tt; defaults = refl }, tt),
-        ),
-      ),
-    ),
-  ),
-)
+EachKnown-recording = EachKnown-of_test recording_rules [] refl
 
 -- each argument of `list` is known
 EachKnown-list : EachKnown listing_rules listing_rules
 unfolding clap_on_literals
-EachKnown-list = (
-  record { is_by_id = refl; acts = refl; defaults = refl },
-  (
-    record { is_by_id = refl; acts = refl; defaults = refl },
-    (
-      record { is_by_id = refl; acts = refl; defaults = refl },
-      (
-        record { is_by_id = refl; acts = refl; defaults = refl },
-        (
-          record { is_by_id = refl; acts = refl; defaults = refl },
-          (
-            record { is_by_id = refl; acts = refl; defaults = refl },
-            (record { is_by_id = refl; acts = tt; defaults = refl }, tt),
-          ),
-        ),
-      ),
-    ),
-  ),
-)
+EachKnown-list = EachKnown-of_test listing_rules [] refl
 
 -- each argument of `annotate` is known
 EachKnown-annotate : EachKnown annotate_rules annotate_rules
 unfolding clap_on_literals
-EachKnown-annotate = (
-  record { is_by_id = refl; acts = refl; defaults = refl },
-  (
-    record { is_by_id = refl; acts = refl; defaults = refl },
-    (
-      record { is_by_id = refl; acts = refl; defaults = refl },
-      (record { is_by_id = refl; acts = tt; defaults = refl }, tt),
-    ),
-  ),
-)
+EachKnown-annotate = EachKnown-of_test annotate_rules [] refl
 
 -- each argument of `confirm` is known
 EachKnown-confirm : EachKnown confirmation_rules confirmation_rules
 unfolding clap_on_literals
-EachKnown-confirm = (
-  record { is_by_id = refl; acts = refl; defaults = refl },
-  (
-    record { is_by_id = refl; acts = refl; defaults = refl },
-    (
-      record { is_by_id = refl; acts = refl; defaults = refl },
-      (
-        record { is_by_id = refl; acts = refl; defaults = refl },
-        (record { is_by_id = refl; acts = tt; defaults = refl }, tt),
-      ),
-    ),
-  ),
-)
+EachKnown-confirm = EachKnown-of_test confirmation_rules [] refl
 
 -- each argument of `audit` is known
 EachKnown-audit : EachKnown audit_rules audit_rules
 unfolding clap_on_literals
-EachKnown-audit = (
-  record { is_by_id = refl; acts = refl; defaults = refl },
-  (
-    record { is_by_id = refl; acts = refl; defaults = refl },
-    (
-      record { is_by_id = refl; acts = refl; defaults = refl },
-      (
-        record { is_by_id = refl; acts = refl; defaults = refl },
-        (
-          record { is_by_id = refl; acts = refl; defaults = refl },
-          (
-            record { is_by_id = refl; acts = refl; defaults = refl },
-            (
-              record { is_by_id = refl; acts = refl; defaults = refl },
-              (
-                record { is_by_id = refl; acts = refl; defaults = refl },
-                (
-                  record { is_by_id = refl; acts = refl; defaults = refl },
-                  (record { is_by_id = refl; acts = tt; defaults = refl }, tt),
-                ),
-              ),
-            ),
-          ),
-        ),
-      ),
-    ),
-  ),
-)
+EachKnown-audit = EachKnown-of_test audit_rules [] refl
 
 -- each argument of `variables` is known
 EachKnown-variables : EachKnown variables_rules variables_rules
 unfolding clap_on_literals
-EachKnown-variables = (
-  record { is_by_id = refl; acts = refl; defaults = refl },
-  (record { is_by_id = refl; acts = tt; defaults = refl }, tt),
-)
+EachKnown-variables = EachKnown-of_test variables_rules [] refl
 
 -- each argument of `bind` is known
 EachKnown-bind : EachKnown bind_rules bind_rules
 unfolding clap_on_literals
-EachKnown-bind = (
-  record { is_by_id = refl; acts = refl; defaults = refl },
-  (
-    record { is_by_id = refl; acts = refl; defaults = refl },
-    (
-      record { is_by_id = refl; acts = refl; defaults = refl },
-      (record { is_by_id = refl; acts = tt; defaults = refl }, tt),
-    ),
-  ),
-)
+EachKnown-bind = EachKnown-of_test bind_rules [] refl
 
 -- each argument of `explain` is known
 EachKnown-explain : EachKnown explain_rules explain_rules
 unfolding clap_on_literals
-EachKnown-explain = (
-  record { is_by_id = refl; acts = refl; defaults = refl },
-  (
-    record { is_by_id = refl; acts = refl; defaults = refl },
-    (
-      record { is_by_id = refl; acts = refl; defaults = refl },
-      (
-        record { is_by_id = refl; acts = refl; defaults = refl },
-        (
-          record { is_by_id = refl; acts = refl; defaults = refl },
-          (record { is_by_id = refl; acts = tt; defaults = refl }, tt),
-        ),
-      ),
-    ),
-  ),
-)
+EachKnown-explain = EachKnown-of_test explain_rules [] refl
 
 -- each argument of `part` is known
 EachKnown-part : EachKnown part_rules part_rules
 unfolding clap_on_literals
-EachKnown-part = (
-  record { is_by_id = refl; acts = refl; defaults = refl },
-  (
-    record { is_by_id = refl; acts = refl; defaults = refl },
-    (
-      record { is_by_id = refl; acts = refl; defaults = refl },
-      (
-        record { is_by_id = refl; acts = refl; defaults = refl },
-        (record { is_by_id = refl; acts = tt; defaults = refl }, tt),
-      ),
-    ),
-  ),
-)
+EachKnown-part = EachKnown-of_test part_rules [] refl
 
 -- each argument of `tell` is known
 EachKnown-tell : EachKnown tell_rules tell_rules
 unfolding clap_on_literals
-EachKnown-tell = (
-  record { is_by_id = refl; acts = refl; defaults = refl },
-  (
-    record { is_by_id = refl; acts = refl; defaults = refl },
-    (
-      record { is_by_id = refl; acts = refl; defaults = refl },
-      (record { is_by_id = refl; acts = tt; defaults = refl }, tt),
-    ),
-  ),
-)
+EachKnown-tell = EachKnown-of_test tell_rules [] refl
 
 -- ---- the matches of a subcommand
 
