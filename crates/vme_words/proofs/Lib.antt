@@ -1,3 +1,4 @@
 pub mod OrderLemmas
 pub mod RowLemmas
 pub mod TakenLemmas
+pub mod TaskLemmas

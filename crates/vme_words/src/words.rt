@@ -1,7 +1,7 @@
 //! Parsing of the words, i.e. the arguments of the command line.
 
-ghost use Rattle.std.specs.Prelude.{◌≡◌, ◌≤◌, [], codes, IfErr, IfOk, IfSome, Some, is_some, map, option_map};
-ghost use Rattle.std.specs.Prelude.{string_bytes, true};
+ghost use Rattle.std.specs.Prelude.{◌≡◌, ◌≢◌, ◌≤◌, [], codes, IfErr, IfNone, IfOk, IfSome, Some, is_some, map};
+ghost use Rattle.std.specs.Prelude.{option_map, string_bytes, true};
 ghost use Rattle.clap.specs.Words.{fault_of, first_of, found_of, kind_of, rows_of, subcommand_of, subcommand_rows_of};
 ghost use Rattle.vme_words.specs.Commands.{vmecheck_app};
 ghost use Rattle.vme_words.specs.OrderFaults.{HasUsageKind, IsFaultOf, IsOfWords};
@@ -64,6 +64,14 @@ fn order_in(alloc: Global, matches: &ArgMatches<'_>) -> Result<Option<Order>, Al
 fn task_named(name: &str) -> Option<Task>
     ensures named { IfSome result (λ task. name.now ≡ task_name task) }
     ensures found { (task : Task) → name.now ≡ task_name task → result ≡ Some task }
+{
+    find_task(name)
+}
+
+/// A task with this name, if one has it.
+fn find_task(name: &str) -> Option<Task>
+    ensures named { IfSome result (λ task. name.now ≡ task_name task) }
+    ensures none { IfNone result ((task : Task) → name.now ≢ task_name task) }
 {
     if name == "check" {
         Some(Task::Check)
