@@ -1,6 +1,6 @@
 -- Whether a recording is judged, and why it isn't: it has too many steps, or needs too many blocks.
-use Rattle.std.proofs.Common.{◌≡◌, ◌<◌, ◌≤◌, ◌↔◌, ℕ, Bool, true, false, List, length, refl, sym, ap, ◌∙◌, inl, inr}
-use Rattle.std.specs.Prelude.{Option, Result, Ok, Err, nat_lt, if◌then◌else◌}
+use Rattle.std.proofs.Common.{◌≡◌, ◌<◌, ◌≤◌, ◌↔◌, ℕ, Bool, true, false, length, refl, inl, inr}
+use Rattle.std.specs.Prelude.{Result, Ok, Err, nat_lt, if◌then◌else◌}
 use Rattle.std.proofs.lemmas.Bool.{cases_lt, le-ltb, lt-ltb}
 use Rattle.vcd_read.specs.Header.{◌>>=◌}
 use Rattle.vme_trace.specs.Blocks.{block_count}
@@ -9,12 +9,11 @@ use Rattle.vme_trace.specs.Verdict.{rules_in_force, verdict_by}
 use Rattle.vme_trace.specs.WellFormed.{capture_limit}
 use Rattle.vme_summary.specs.declared.stream_judge.NoVerdict.{NoVerdict}
 use Rattle.vme_summary.specs.declared.stream_judge.NoVerdict.TheVariants.{TooManySteps, TooManyBlocks, Memory}
-use Rattle.vme_stream.specs.Answers.{AnswerGives, judgement_of, or_bad_binding, recording_read, verdict_in_blocks}
+use Rattle.vme_stream.specs.Answers.{AnswerGives, verdict_in_blocks}
 use Rattle.vme_stream.specs.Refusals.{judging_refusal}
 use Rattle.vme_stream.specs.declared.refusal.Refusal.{Refusal}
 use Rattle.vme_stream.specs.declared.refusal.Refusal.TheVariants as refusal
-use Rattle.vme_stream.proofs.AnswerLemmas.{capture_read-recorded}
-use Rattle.vme_commands.specs.Judged.{in_blocks, judged_in_blocks, limited_in_blocks}
+use Rattle.vme_commands.specs.Judged.{in_blocks, limited_in_blocks}
 
 -- a number that isn't over `most` is at most that
 le-not_over : (most n : ℕ) → (most < n → ⊥) → n ≤ most
@@ -44,7 +43,7 @@ module _ {X : Type 0} (t : Trace) (block : ℕ) (r : Result X NoVerdict)
     limited_in_blocks-refused Memory is = tt
 
 -- the verdict on a recording in blocks is the verdict on it if it needs few enough blocks
-verdict_in_blocks-in_blocks : (block : ℕ) (r : Result Trace Refusal) → (r >>= verdict_in_blocks block)
+pub verdict_in_blocks-in_blocks : (block : ℕ) (r : Result Trace Refusal) → (r >>= verdict_in_blocks block)
     ≡ ((r >>= in_blocks block) >>= λ t. Ok (verdict_by rules_in_force t))
 verdict_in_blocks-in_blocks block (Err r) = refl
 verdict_in_blocks-in_blocks block (Ok t) = by_test (nat_lt 4096 (block_count block t))
@@ -57,26 +56,7 @@ verdict_in_blocks-in_blocks block (Ok t) = by_test (nat_lt 4096 (block_count blo
     by_test true = refl
     by_test false = refl
 
--- the verdict on the recording that a binding makes of a dump
-pub judgement_of-recorded : (binding dump : Option (List ℕ)) (block : ℕ) (t : Trace) → recording_read binding dump
-    ≡ Ok t
-    → judgement_of binding dump block ≡ judged_in_blocks block t
-unfolding judgement_of
-judgement_of-recorded binding dump block t is =
-    ap (λ (r : Result Trace Refusal). r >>= verdict_in_blocks block) (capture_read-recorded binding dump t is)
-    ∙ verdict_in_blocks-in_blocks block (or_bad_binding _)
-
--- ---- a recording that isn't too long
-
 -- a recording that isn't too long is judged if it needs few enough blocks
 pub limited_in_blocks-short : (t : Trace) (block : ℕ) → length t.steps ≤ capture_limit → limited_in_blocks block t
     ≡ in_blocks block t
 limited_in_blocks-short t block short = rw (le-ltb capture_limit (length t.steps) short) refl
-
--- the verdict on a recording that isn't too long is that on it in blocks
-pub judged_in_blocks-short : (t : Trace) (block : ℕ) → length t.steps ≤ capture_limit → judged_in_blocks block t
-    ≡ verdict_in_blocks block t
-judged_in_blocks-short t block short =
-    ap (λ (r : Result Trace Refusal). r >>= λ t. Ok (verdict_by rules_in_force t))
-    (limited_in_blocks-short t block short)
-    ∙ sym (verdict_in_blocks-in_blocks block (Ok t))

@@ -5,7 +5,6 @@ use Rattle.std.proofs.Common.{ap, subst, ◌∙◌}
 use Rattle.std.specs.Io.KnownBytes.{Appends}
 use Rattle.std.specs.Prelude.{Option, Some, None, Result, Ok, Err, flat_map, if◌then◌else◌}
 use Rattle.std.specs.List.{last_or}
-use Rattle.vcd_read.specs.Header.{◌>>=◌}
 use Rattle.vme_trace.specs.Judged.{Stretch, judged_stretches}
 use Rattle.vme_trace.specs.Trace.{Trace}
 use Rattle.vme_trace.specs.Rules.{all_rules, is_unreadable}
@@ -21,10 +20,9 @@ use Rattle.vme_listing.specs.declared.row.Row.{Row}
 use Rattle.vme_listing.specs.declared.row.Row.TheVariants.{Verdict}
 use Rattle.vme_stream.specs.declared.refusal.Refusal.{Refusal}
 use Rattle.vme_stream.specs.declared.refusal.Refusal.TheVariants.{Memory}
-use Rattle.vme_stream.specs.Answers.{AnswerGives, capture_read, recording_read}
+use Rattle.vme_stream.specs.Answers.{AnswerGives}
 use Rattle.vme_stream.specs.Ends.{WritesAnswer}
 use Rattle.vme_stream.specs.Texts.{verdict_status}
-use Rattle.vme_stream.proofs.AnswerLemmas.{capture_read-recorded}
 use Rattle.vme_stream.proofs.EndLemmas.{AnswersInputs-exact, AnswersInputs-unwritten, answer-AnswerGives}
 use Rattle.vme_stream.proofs.EndLemmas.{refusal_status-small}
 use Rattle.vme_stream.proofs.EndLemmas.{verdict_status-small}
@@ -32,10 +30,8 @@ use Rattle.vme_listing.specs.Written.{AppendsFront}
 use Rattle.vme_stream.specs.Inputs.{IsReadWhole}
 use Rattle.vme_trace.specs.Streams.{Reading, Writing}
 use Rattle.vme_stream.proofs.OutputLemmas.{take-done}
-use Rattle.vme_commands.specs.Judged.{in_blocks, limited_in_blocks}
 use Rattle.vme_commands.specs.Listings.{GivesListing, WritesListing, listing_answer_by, listing_answer_of}
 use Rattle.vme_stream.specs.ListingStatus.{listing_status, rows_status, status_of_last, verdict_row_status}
-use Rattle.vme_commands.specs.Listings.{recording_in_blocks}
 use Rattle.vme_commands.specs.Settled.{settled_recording}
 
 -- ---- the status
@@ -75,22 +71,6 @@ unfolding listing_by verdict_by
 listing_status-verdict t = rows_status-stretches t (judged_stretches t)
 
 -- ---- what is given
-
--- a refusal of the recording is one of the listing
-pub recording_in_blocks-refused : (binding dump : Option (List ℕ)) (block : ℕ) (r : Refusal)
-    → AnswerGives (λ (t : Trace). t) (Err r) (capture_read binding dump)
-    → GivesListing (Err r) (recording_in_blocks binding dump block)
-unfolding recording_in_blocks
-recording_in_blocks-refused binding dump block Memory is = tt
-recording_in_blocks-refused binding dump block r is = ap (λ (w : Result Trace Refusal). w >>= in_blocks block) is
-
--- where there is a recording `t`, of any length, the result is `t`, or the limit that it is beyond
-pub recording_in_blocks-recorded : (binding dump : Option (List ℕ)) (block : ℕ) (t : Trace)
-    → recording_read binding dump ≡ Ok t
-    → recording_in_blocks binding dump block ≡ limited_in_blocks block t
-unfolding recording_in_blocks
-recording_in_blocks-recorded binding dump block t is = ap (λ (w : Result Trace Refusal). w >>= in_blocks block)
-    (capture_read-recorded binding dump t is)
 
 -- of a refusal `GivesListing` and `AnswerGives` say the same
 pub GivesListing-from_AnswerGives : (r : Refusal) (recording : Result Trace Refusal)

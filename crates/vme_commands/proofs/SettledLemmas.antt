@@ -1,7 +1,8 @@
 -- The deskewed recording of a binding and a dump, and the verdict on it, step by step. Deskewing by 0 changes nothing.
 use Rattle.std.proofs.Common.{◌≡◌, ◌≤◌, ℕ, Bool, true, false, List, length, refl, sym, ap, subst, ◌∙◌, arith}
+use Rattle.std.proofs.lemmas.Bool.{le-ltb}
 use Rattle.std.proofs.lemmas.Bool.Decides.{nat_tests}
-use Rattle.std.specs.Prelude.{Option, Some, None, Result, Ok, Err, nat_le, nat_lt, if◌then◌else◌}
+use Rattle.std.specs.Prelude.{Option, Some, None, Result, Ok, Err, IfOk, nat_le, nat_lt, if◌then◌else◌}
 use Rattle.vcd_read.specs.Contents.{Contents}
 use Rattle.vcd_read.specs.Header.{◌>>=◌}
 use Rattle.vcd_read.specs.Meaning.{dump_of}
@@ -11,7 +12,6 @@ use Rattle.vme_trace.specs.WellFormed.{capture_limit}
 use Rattle.vme_trace.specs.declared.verdict.Verdict.{Verdict}
 use Rattle.vme_bind.specs.Binding.{BoundLines}
 use Rattle.vme_bind.specs.Capture.{capture_of, limited}
-use Rattle.vme_bind.specs.TextCapture as text
 use Rattle.vme_bind.specs.declared.fault.BindFault.{BindFault}
 use Rattle.vme_bind.specs.declared.fault.BindFaultKind.TheVariants.{TooManySteps}
 use Rattle.vme_skew.specs.Settled.{settled, settled_or}
@@ -24,11 +24,12 @@ use Rattle.vme_stream.specs.Refusals.{judging_refusal}
 use Rattle.vme_stream.specs.declared.refusal.Input.TheVariants.{Dump}
 use Rattle.vme_stream.specs.declared.refusal.Refusal.{Refusal}
 use Rattle.vme_stream.specs.declared.refusal.Refusal.TheVariants.{Memory, TooLong}
-use Rattle.vme_stream.proofs.AnswerLemmas.{capture_read-recorded, AnswerGives-then}
+use Rattle.vme_stream.proofs.AnswerLemmas.{capture_read-recorded, capture_read-unrecorded, AnswerGives-then}
 use Rattle.vme_summary.specs.declared.stream_judge.NoVerdict.TheVariants as NoVerdict
-use Rattle.vme_commands.specs.Judged.{in_blocks}
+use Rattle.vme_commands.specs.Judged.{GivesUnlimited, in_blocks, judged_in_blocks, limited_in_blocks}
 use Rattle.vme_commands.specs.Listings.{recording_in_blocks}
 use Rattle.vme_commands.specs.Settled.{settled_judgement, settled_read, settled_recording}
+use Rattle.vme_commands.proofs.JudgedLemmas.{verdict_in_blocks-in_blocks}
 
 -- ---- deskewing by 0 changes nothing
 
@@ -110,20 +111,6 @@ unfolding settled_recording recording_in_blocks
 settled_recording-zero_skew b d block = ap (λ (r : Result Trace Refusal). r >>= in_blocks block)
     (settled_read-zero_skew b d)
 
--- ---- the same facts for a skew that equals 0
-
--- the verdict on the recording that is deskewed by a skew that equals 0
-pub settled_judgement-skew_zero : (skew : ℕ) → skew ≡ 0 → (b d : Option (List ℕ)) (block : ℕ)
-    → settled_judgement skew b d block ≡ judgement_of b d block
-settled_judgement-skew_zero skew none b d block =
-    ap (λ (s : ℕ). settled_judgement s b d block) none ∙ settled_judgement-zero_skew b d block
-
--- the recording that is deskewed by a skew that equals 0, within the blocks
-pub settled_recording-skew_zero : (skew : ℕ) → skew ≡ 0 → (b d : Option (List ℕ)) (block : ℕ)
-    → settled_recording skew b d block ≡ recording_in_blocks b d block
-settled_recording-skew_zero skew none b d block =
-    ap (λ (s : ℕ). settled_recording s b d block) none ∙ settled_recording-zero_skew b d block
-
 -- ---- results for the deskewed recording
 
 -- the result agrees with the recording `read`, or is the same refusal
@@ -142,13 +129,35 @@ pub settled_read-refused : (skew : ℕ) (b d : Option (List ℕ)) (r : Refusal) 
 unfolding settled_read
 settled_read-refused skew b d r is = settled_or-refused skew (capture_read b d) r is
 
+-- what is read without the limit on steps agrees with the recording that is deskewed by a skew that equals 0
+pub GivesUnlimited-skew_zero : (skew : ℕ) → skew ≡ 0 → (b d : Option (List ℕ)) (r : Result Trace Refusal)
+    → GivesTrace r (recording_read b d) → GivesUnlimited r (settled_read skew b d)
+GivesUnlimited-skew_zero skew none b d r given =
+    subst (GivesUnlimited r) (sym (ap (λ (s : ℕ). settled_read s b d) none ∙ settled_read-zero_skew b d))
+    (by_result r given)
+  where
+    -- by whether there is a recording
+    by_result : (found : Result Trace Refusal) → GivesTrace found (recording_read b d)
+        → GivesUnlimited found (capture_read b d)
+    by_result (Ok t) is = capture_read-recorded b d t is
+    by_result (Err refusal) refused = capture_read-unrecorded b d refusal refused
+
+-- a result that agrees with what is read, and isn't too long, agrees with it without the limit on steps too
+pub GivesUnlimited-short : (read r : Result Trace Refusal) → GivesTrace r read
+    → IfOk r (λ (t : Trace). length t.steps ≤ capture_limit) → GivesUnlimited r read
+GivesUnlimited-short read (Ok t) is short = rw (le-ltb capture_limit (length t.steps) short) is
+GivesUnlimited-short read (Err refusal) refused short = refused
+
 -- ---- the verdict on the deskewed recording, and its listing
 
--- where there is a deskewed recording, the judgement is the verdict on it
-pub settled_judgement-read : (skew : ℕ) (b d : Option (List ℕ)) (block : ℕ) (t : Trace) → settled_read skew b d ≡ Ok t
-    → settled_judgement skew b d block ≡ verdict_in_blocks block t
+-- where `t` was judged, of any length, for the deskewed recording, the judgement is the verdict on `t`, if it is
+-- within the limits
+pub settled_judgement-taken : (skew : ℕ) (b d : Option (List ℕ)) (block : ℕ) (t : Trace)
+    → settled_read skew b d ≡ or_bad_binding (limited t) → settled_judgement skew b d block ≡ judged_in_blocks block t
 unfolding settled_judgement
-settled_judgement-read skew b d block t is = ap (λ (r : Result Trace Refusal). r >>= verdict_in_blocks block) is
+settled_judgement-taken skew b d block t is =
+    ap (λ (r : Result Trace Refusal). r >>= verdict_in_blocks block) is
+    ∙ verdict_in_blocks-in_blocks block (or_bad_binding (limited t))
 
 -- a refusal of the deskewed recording is one of the judgement
 pub settled_judgement-refused : (skew : ℕ) (b d : Option (List ℕ)) (block : ℕ) (r : Refusal)
@@ -157,11 +166,12 @@ pub settled_judgement-refused : (skew : ℕ) (b d : Option (List ℕ)) (block : 
 unfolding settled_judgement
 settled_judgement-refused skew b d block r is = AnswerGives-then r (settled_read skew b d) (verdict_in_blocks block) is
 
--- where there is a deskewed recording, it is the result if it needs few enough blocks
-pub settled_recording-read : (skew : ℕ) (b d : Option (List ℕ)) (block : ℕ) (t : Trace) → settled_read skew b d ≡ Ok t
-    → settled_recording skew b d block ≡ in_blocks block t
+-- where `t` was judged, of any length, for the deskewed recording, that within the blocks is `t`, if it is within the
+-- limits
+pub settled_recording-taken : (skew : ℕ) (b d : Option (List ℕ)) (block : ℕ) (t : Trace)
+    → settled_read skew b d ≡ or_bad_binding (limited t) → settled_recording skew b d block ≡ limited_in_blocks block t
 unfolding settled_recording
-settled_recording-read skew b d block t is = ap (λ (r : Result Trace Refusal). r >>= in_blocks block) is
+settled_recording-taken skew b d block t is = ap (λ (r : Result Trace Refusal). r >>= in_blocks block) is
 
 -- a refusal of the deskewed recording is one of it within the blocks
 pub settled_recording-refused : (skew : ℕ) (b d : Option (List ℕ)) (block : ℕ) (r : Refusal)

@@ -1,15 +1,14 @@
 //! The check of one recording.
 
 ghost use Rattle.std.specs.Prelude.{◌≡◌, ◌≤◌, ◌↔◌, ℕ, suc, List, Option, Some, None};
-ghost use Rattle.vme_stream.specs.Answers.{AnswerGives, answer_of, judgement_of};
+ghost use Rattle.vme_stream.specs.Answers.{AnswerGives, answer_of};
 ghost use Rattle.vme_stream.specs.Ends.{Checks, WritesAnswerExactly};
-ghost use Rattle.vme_stream.specs.Inputs.{IsReading, longest_input};
+ghost use Rattle.vme_stream.specs.Inputs.{IsReading};
 ghost use Rattle.vme_trace.specs.WellFormed.{malformed_step};
 ghost use Rattle.vme_commands.specs.Judged.{judged_in_blocks};
 ghost use Rattle.vme_commands.specs.Settled.{ChecksSettled, settled_answer_of, settled_judgement};
 
-use crate::judged_dump::judged_dump;
-use crate::judged_settled::judged_settled;
+use crate::judged_recording::judged_recording;
 use crate::workers::Workers;
 use std::alloc::Global;
 use std::thread::Threads;
@@ -84,7 +83,7 @@ pub fn check_by<R: Threads + Sync, B: Source, D: Source, O: Sink, E: Sink>(
         (B.reading binding.old, B.reading binding.new) (D.reading dump.old, D.reading dump.new) block
         (O.writing out.old, O.writing out.new) (E.writing err.old, E.writing err.new) result }
 {
-    match judge_settled(alloc, workers, binding, dump, block, skew) {
+    match judge(alloc, workers, binding, dump, block, skew) {
         Ok(verdict) => tell_verdict(&verdict, out, err),
         Err(refusal) => {
             complain(err, refusal_line(&refusal));
@@ -95,49 +94,6 @@ pub fn check_by<R: Threads + Sync, B: Source, D: Source, O: Sink, E: Sink>(
 
 /// The verdict on the recording that the binding makes of the dump, deskewed by `skew`, or the first reason that there
 /// is none.
-fn judge_settled<R: Threads + Sync, B: Source, D: Source>(
-    alloc: Global,
-    workers: &Workers<'_, R>,
-    binding: &mut B,
-    dump: &mut D,
-    block: u32,
-    skew: u64,
-) -> Result<Verdict, Refusal>
-    requires { (1 ≤ block) × (block ≤ 65536) }
-    ensures { (binding_bytes dump_bytes : Option (List ℕ))
-        × IsReading (B.reading binding.old) (B.reading binding.new) binding_bytes
-        × IsReading (D.reading dump.old) (D.reading dump.new) dump_bytes
-        × AnswerGives (λ verdict. verdict) result (settled_judgement skew binding_bytes dump_bytes block) }
-{
-    if skew == 0 {
-        judge(alloc, workers, binding, dump, block)
-    } else {
-        judge_in_order(alloc, workers.piece(), binding, dump, block, skew)
-    }
-}
-
-/// `judge_settled` by one worker, which deskews the steps as they come.
-#[inline(never)]
-fn judge_in_order<B: Source, D: Source>(
-    alloc: Global,
-    piece: usize,
-    binding: &mut B,
-    dump: &mut D,
-    block: u32,
-    skew: u64,
-) -> Result<Verdict, Refusal>
-    requires piece { (1 ≤ piece) × (piece ≤ longest_input) }
-    requires block { (1 ≤ block) × (block ≤ 65536) }
-    ensures { (binding_bytes dump_bytes : Option (List ℕ))
-        × IsReading (B.reading binding.old) (B.reading binding.new) binding_bytes
-        × IsReading (D.reading dump.old) (D.reading dump.new) dump_bytes
-        × AnswerGives (λ verdict. verdict) result (settled_judgement skew binding_bytes dump_bytes block) }
-{
-    let judge = judged_settled(alloc, piece, binding, dump, skew)?;
-    verdict_of(alloc, judge, block)
-}
-
-/// The verdict on the recording that a binding makes of a dump, or the first reason that there is none.
 #[inline(never)]
 fn judge<R: Threads + Sync, B: Source, D: Source>(
     alloc: Global,
@@ -145,14 +101,15 @@ fn judge<R: Threads + Sync, B: Source, D: Source>(
     binding: &mut B,
     dump: &mut D,
     block: u32,
+    skew: u64,
 ) -> Result<Verdict, Refusal>
     requires { (1 ≤ block) × (block ≤ 65536) }
     ensures { (binding_bytes dump_bytes : Option (List ℕ))
         × IsReading (B.reading binding.old) (B.reading binding.new) binding_bytes
         × IsReading (D.reading dump.old) (D.reading dump.new) dump_bytes
-        × AnswerGives (λ verdict. verdict) result (judgement_of binding_bytes dump_bytes block) }
+        × AnswerGives (λ verdict. verdict) result (settled_judgement skew binding_bytes dump_bytes block) }
 {
-    let judge = judged_dump(alloc, workers, binding, dump)?;
+    let judge = judged_recording(alloc, workers, binding, dump, skew)?;
     verdict_of(alloc, judge, block)
 }
 

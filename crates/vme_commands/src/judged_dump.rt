@@ -20,6 +20,7 @@ use vme_trace::Source;
 
 /// The judge that took the recording that a binding makes of a dump, or the first reason that there is none. The
 /// binding is read, and then the dump, piece by piece. None of its text is kept.
+#[inline(never)]
 pub(crate) fn judged_dump<R: Threads + Sync, B: Source, D: Source, J: ChunkJudge + Send>(
     alloc: Global,
     workers: &Workers<'_, R>,

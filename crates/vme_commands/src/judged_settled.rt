@@ -20,6 +20,7 @@ use vme_trace::{Source, StepVisitor};
 
 /// The judge that took the recording that a binding makes of a dump, deskewed by `skew`, or the first reason that there
 /// is none. The binding is read, and then the dump, piece by piece. Neither its text nor its steps are kept.
+#[inline(never)]
 pub(crate) fn judged_settled<B: Source, D: Source, J: ChunkJudge>(
     alloc: Global,
     piece: usize,

@@ -6,9 +6,9 @@
 //! - `check`, `list`: [`check::check`] judges a recording and [`list::list`] lists it, by
 //!   [`Workers`]. A listing is compared with that of a recording by vme_confirm_command. The commands
 //!   that write texts for people, as `explain`, are vme_text_commands'.
-//! - `judged_dump`, `workers`: a dump that is judged as it is read, in which pieces and by how
-//!   many; `judged_settled`: one that is deskewed and judged so, in order; `settled`: a recording
-//!   that is deskewed by 0 is itself ([`unsettled`]).
+//! - `judged_recording`: the recording that both judge, as it is read: by `judged_dump` and
+//!   `workers`, which say in which pieces and by how many; or by `judged_settled`, deskewed, in
+//!   order. `settled`: a recording that is deskewed by 0 is itself ([`unsettled`]).
 //! - `allowance`, `words`, `built_in`: which breaks the arguments of an audit allow; how a call
 //!   without an order ends; what is used without arguments. The audit is vme_audit_command's.
 //!
@@ -34,13 +34,14 @@
 //!
 //! # In which order to read
 //!
-//! `check`, `settled`, `judged_dump`; then `list`.
+//! `check`, `settled`, `judged_recording`, `judged_dump`; then `list`.
 #![tactic(auto)]
 
 mod allowance;
 mod built_in;
 pub mod check;
 mod judged_dump;
+mod judged_recording;
 mod judged_settled;
 pub mod list;
 mod settled;

@@ -5,14 +5,13 @@ ghost use Rattle.vme_listing.specs.Recorded.{listing_of};
 ghost use Rattle.vme_trace.specs.Trace.{Trace};
 ghost use Rattle.vme_trace.specs.WellFormed.{malformed_step};
 ghost use Rattle.vme_stream.specs.Ends.{Ends, WritesAnswerExactly};
-ghost use Rattle.vme_stream.specs.Inputs.{IsReading, longest_input};
+ghost use Rattle.vme_stream.specs.Inputs.{IsReading};
 ghost use Rattle.vme_commands.specs.Judged.{limited_in_blocks};
 ghost use Rattle.vme_commands.specs.Listings.{GivesListing, WritesListing, listing_answer_by, listing_answer_of};
-ghost use Rattle.vme_commands.specs.Listings.{WritesSplitExactly, recording_in_blocks};
+ghost use Rattle.vme_commands.specs.Listings.{WritesSplitExactly};
 ghost use Rattle.vme_commands.specs.Settled.{settled_recording};
 
-use crate::judged_dump::judged_dump;
-use crate::judged_settled::judged_settled;
+use crate::judged_recording::judged_recording;
 use crate::workers::Workers;
 use std::alloc::Global;
 use std::thread::Threads;
@@ -86,7 +85,7 @@ pub fn list_by<R: Threads + Sync, B: Source, D: Source, O: Sink, E: Sink>(
         (B.reading binding.old, B.reading binding.new) (D.reading dump.old, D.reading dump.new) block
         (O.writing out.old, O.writing out.new) (E.writing err.old, E.writing err.new) result }
 {
-    match listing_settled(alloc, workers, binding, dump, block, skew) {
+    match listing(alloc, workers, binding, dump, block, skew) {
         Ok(listing) => tell(&listing, out, err),
         Err(refusal) => {
             complain(err, refusal_line(&refusal));
@@ -112,49 +111,6 @@ fn tell<O: Sink, E: Sink>(listing: &Listing, out: &mut O, err: &mut E) -> u8
 
 /// The listing of the recording that the binding makes of the dump, deskewed by `skew`, or the first reason that there
 /// is none.
-fn listing_settled<R: Threads + Sync, B: Source, D: Source>(
-    alloc: Global,
-    workers: &Workers<'_, R>,
-    binding: &mut B,
-    dump: &mut D,
-    block: u32,
-    skew: u64,
-) -> Result<Listing, Refusal>
-    requires { (1 ≤ block) × (block ≤ 65536) }
-    ensures { (binding_bytes dump_bytes : Option (List ℕ))
-        × IsReading (B.reading binding.old) (B.reading binding.new) binding_bytes
-        × IsReading (D.reading dump.old) (D.reading dump.new) dump_bytes
-        × GivesListing result (settled_recording skew binding_bytes dump_bytes block) }
-{
-    if skew == 0 {
-        listing(alloc, workers, binding, dump, block)
-    } else {
-        listing_in_order(alloc, workers.piece(), binding, dump, block, skew)
-    }
-}
-
-/// `listing_settled` by one worker, which deskews the steps as they come.
-#[inline(never)]
-fn listing_in_order<B: Source, D: Source>(
-    alloc: Global,
-    piece: usize,
-    binding: &mut B,
-    dump: &mut D,
-    block: u32,
-    skew: u64,
-) -> Result<Listing, Refusal>
-    requires piece { (1 ≤ piece) × (piece ≤ longest_input) }
-    requires block { (1 ≤ block) × (block ≤ 65536) }
-    ensures { (binding_bytes dump_bytes : Option (List ℕ))
-        × IsReading (B.reading binding.old) (B.reading binding.new) binding_bytes
-        × IsReading (D.reading dump.old) (D.reading dump.new) dump_bytes
-        × GivesListing result (settled_recording skew binding_bytes dump_bytes block) }
-{
-    let lister = judged_settled(alloc, piece, binding, dump, skew)?;
-    listing_of_steps(alloc, lister, block)
-}
-
-/// The listing of the recording that a binding makes of a dump, or the first reason that there is none.
 #[inline(never)]
 fn listing<R: Threads + Sync, B: Source, D: Source>(
     alloc: Global,
@@ -162,14 +118,15 @@ fn listing<R: Threads + Sync, B: Source, D: Source>(
     binding: &mut B,
     dump: &mut D,
     block: u32,
+    skew: u64,
 ) -> Result<Listing, Refusal>
     requires { (1 ≤ block) × (block ≤ 65536) }
     ensures { (binding_bytes dump_bytes : Option (List ℕ))
         × IsReading (B.reading binding.old) (B.reading binding.new) binding_bytes
         × IsReading (D.reading dump.old) (D.reading dump.new) dump_bytes
-        × GivesListing result (recording_in_blocks binding_bytes dump_bytes block) }
+        × GivesListing result (settled_recording skew binding_bytes dump_bytes block) }
 {
-    let lister = judged_dump(alloc, workers, binding, dump)?;
+    let lister = judged_recording(alloc, workers, binding, dump, skew)?;
     listing_of_steps(alloc, lister, block)
 }
 

@@ -1,8 +1,7 @@
 -- A reason that there is no recording is one that there is no verdict; else the verdict is on the recording that was
 -- judged as its dump was read.
 use Rattle.std.proofs.lemmas.Result.{err_from_is_err_and}
-use Rattle.vme_stream.proofs.AnswerLemmas.{capture_read-unrecorded, judgement_of-refused}
-use Rattle.vme_commands.proofs.JudgedLemmas.{judgement_of-recorded}
+use Rattle.vme_commands.proofs.SettledLemmas.{settled_judgement-refused, settled_judgement-taken}
 use Rattle.vme_commands.proofs.check.judge.Goals as goal
 
 pub returns-in_err-judge : goal.returns-in_err-judge
@@ -15,16 +14,16 @@ returns-in_err-judge g c =
       bytes,
       bound_reading,
       reading,
-      judgement_of-refused bound bytes c.args.block refusal (capture_read-unrecorded bound bytes refusal refused),
+      settled_judgement-refused c.args.skew bound bytes c.args.block refusal refused,
     )
 
 pub returns : goal.returns
 returns g c =
-    let (bound, bytes, bound_reading, reading, recorded) = c.in_ok-judge.ensures.gives in (
+    let (bound, bytes, bound_reading, reading, taken) = c.in_ok-judge.ensures.gives in (
       bound,
       bytes,
       bound_reading,
       reading,
-      rw (judgement_of-recorded bound bytes c.args.block _ recorded)
+      rw (settled_judgement-taken c.args.skew bound bytes c.args.block c.in_ok-judge.judge taken)
           (c.verdict_of.ensures c.in_ok-judge.ensures.formed),
     )

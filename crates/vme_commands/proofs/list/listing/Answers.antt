@@ -1,6 +1,6 @@
 use Rattle.std.proofs.lemmas.Result.{err_from_is_err_and}
-use Rattle.vme_stream.proofs.AnswerLemmas.{capture_read-unrecorded}
-use Rattle.vme_commands.proofs.ListLemmas.{recording_in_blocks-refused, recording_in_blocks-recorded}
+use Rattle.vme_commands.proofs.ListLemmas.{GivesListing-from_AnswerGives}
+use Rattle.vme_commands.proofs.SettledLemmas.{settled_recording-refused, settled_recording-taken}
 use Rattle.vme_commands.proofs.list.listing.Goals as goal
 
 pub returns-in_err-lister : goal.returns-in_err-lister
@@ -13,17 +13,17 @@ returns-in_err-lister g c =
       bytes,
       bound_reading,
       reading,
-      recording_in_blocks-refused bound bytes c.args.block refusal
-          (capture_read-unrecorded bound bytes refusal refused),
+      GivesListing-from_AnswerGives refusal _
+          (settled_recording-refused c.args.skew bound bytes c.args.block refusal refused),
     )
 
 pub returns : goal.returns
 returns g c =
-    let (bound, bytes, bound_reading, reading, recorded) = c.in_ok-lister.ensures.gives in (
+    let (bound, bytes, bound_reading, reading, taken) = c.in_ok-lister.ensures.gives in (
       bound,
       bytes,
       bound_reading,
       reading,
-      rw (recording_in_blocks-recorded bound bytes c.args.block _ recorded)
+      rw (settled_recording-taken c.args.skew bound bytes c.args.block c.in_ok-lister.lister taken)
           (c.listing_of_steps.ensures c.in_ok-lister.ensures.formed),
     )
