@@ -11,13 +11,13 @@ ghost use Rattle.vme_program.specs.Audits.{IsFoundIfFaulty, IsOfWordsIfFaulty, I
 ghost use Rattle.vme_program.specs.Audits.{RefusesFile, SavesCases, dump_words, file_line, input_name};
 ghost use Rattle.vme_program.specs.Openings.{WithInput};
 ghost use Rattle.vme_program.specs.declared.audit.AllowancesError.TheVariants.{Memory};
-ghost use Rattle.vme_program.specs.declared.audit.OpenDumpsError.TheVariants.{Memory as LackedMemory, Unopened};
+ghost use Rattle.vme_program.specs.declared.opening.OpenFilesError.TheVariants.{Unopened};
 ghost use Rattle.vme_words.specs.OrderFaults.{HasUsageKind, IsOfWords};
 
 use crate::environment::{Environment, WriteResult};
-use crate::opening::{refuse, refuse_input};
+use crate::opening::{OpenFilesError, refuse, refuse_input};
 use crate::save::say;
-use std::alloc::{AllocError, AllocFailed, Global};
+use std::alloc::{AllocError, Global};
 use vme_audit::Allowance;
 use vme_audit_command::{AuditOptions, NamedDump, TestSuite, audit, junit_file};
 use vme_audit_lines::dump_head;
@@ -45,23 +45,6 @@ impl From<AllocError> for AllowancesError {
 
     fn from(_: AllocError) -> AllowancesError {
         AllowancesError::Memory
-    }
-}
-
-/// Why there are no dumps to audit.
-#[derive(Drop)]
-enum OpenDumpsError<'a> {
-    /// The dump with this name can't be opened.
-    Unopened(&'a str),
-    /// Memory ran out.
-    Memory,
-}
-
-impl<'a, T: Drop> From<AllocFailed<T>> for OpenDumpsError<'a> {
-    ghost from_gives = { λ _ none. none ≡ LackedMemory };
-
-    fn from(_: AllocFailed<T>) -> OpenDumpsError<'a> {
-        OpenDumpsError::Memory
     }
 }
 
@@ -180,8 +163,8 @@ fn audit_named<S: Environment, O: Sink, E: Sink>(
             out,
             err,
         ),
-        Err(OpenDumpsError::Unopened(name)) => refuse_file(alloc, name, b"cannot open", 3, err),
-        Err(OpenDumpsError::Memory) => refuse(&Refusal::Memory, err),
+        Err(OpenFilesError::Unopened(name)) => refuse_file(alloc, name, b"cannot open", 3, err),
+        Err(OpenFilesError::Memory) => refuse(&Refusal::Memory, err),
     }
 }
 
@@ -190,7 +173,7 @@ fn open_dumps<'a, S: Environment>(
     alloc: Global,
     environment: &S,
     names: &'a [String],
-) -> Result<Vec<NamedDump<'a, S::Reader>>, OpenDumpsError<'a>>
+) -> Result<Vec<NamedDump<'a, S::Reader>>, OpenFilesError<'a>>
     ensures opened { IfOk result (λ dumps. AllZip (IsDumpOf S.Environment environment.now)
         (map string_bytes names.now)
         (map (λ d. record { name = d.name.now; dump = S.Reader.reading d.dump }) dumps.items)) }
@@ -202,7 +185,7 @@ fn open_dumps<'a, S: Environment>(
         let name = name.as_str();
         match open_dump(environment, name) {
             Some(named) => dumps.push(named)?,
-            None => return Err(OpenDumpsError::Unopened(name)),
+            None => return Err(OpenFilesError::Unopened(name)),
         }
     }
     Ok(dumps)

@@ -5,11 +5,30 @@ ghost use Rattle.vme_stream.specs.Texts.{line_of, refusal_status, refusal_text};
 ghost use Rattle.vme_stream.specs.declared.refusal.Refusal.TheVariants.{CannotOpen};
 ghost use Rattle.vme_stream.specs.Outputs.{TriesToWrite};
 ghost use Rattle.vme_program.specs.Openings.{IsFirstUnopenedInput};
+ghost use Rattle.vme_program.specs.declared.opening.OpenFilesError.TheVariants.{Memory};
 
 use crate::environment::Environment;
+use std::alloc::AllocFailed;
 use vme_stream::{Input, Refusal, complain, refusal_line};
 use vme_trace::Sink;
 use vme_words::RecordingFiles;
+
+/// Why the files of several names aren't opened.
+#[derive(Drop)]
+pub(crate) enum OpenFilesError<'a> {
+    /// The file with this name can't be opened.
+    Unopened(&'a str),
+    /// Memory ran out.
+    Memory,
+}
+
+impl<'a, T: Drop> From<AllocFailed<T>> for OpenFilesError<'a> {
+    ghost from_gives = { λ _ none. none ≡ Memory };
+
+    fn from(_: AllocFailed<T>) -> OpenFilesError<'a> {
+        OpenFilesError::Memory
+    }
+}
 
 /// The binding and the dump of a recording, opened in this order; or the first that can't be opened.
 pub(crate) fn open_recording<S: Environment>(

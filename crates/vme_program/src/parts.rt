@@ -3,35 +3,18 @@
 ghost use Rattle.std.specs.Prelude.{◌≡◌, Err, IfOk, IfSome, map, option_map, string_bytes};
 ghost use Rattle.vme_program.specs.Parts.{AreOpened, IsFirstUnopenedPart, JoinsFiles, TellsOfFiles, TellsParts};
 ghost use Rattle.vme_program.specs.Parts.{WritesPartOfFiles};
-ghost use Rattle.vme_program.specs.declared.parts.OpenPartsError.TheVariants.{Memory as LackedMemory, Unopened};
+ghost use Rattle.vme_program.specs.declared.opening.OpenFilesError.TheVariants.{Unopened};
 
 use crate::audit::refuse_file;
 use crate::environment::Environment;
-use crate::opening::{open_recording, refuse, refuse_input};
-use std::alloc::{AllocFailed, Global};
+use crate::opening::{OpenFilesError, open_recording, refuse, refuse_input};
+use std::alloc::Global;
 use vme_part_command::{
     NamedPart, PartOptions, list_whole, tell_whole, write_joined, write_part_of,
 };
 use vme_stream::Refusal;
 use vme_trace::{Sink, Source};
 use vme_words::{JoinOrder, PartOrder, TellOrder};
-
-/// Why parts aren't opened.
-#[derive(Drop)]
-enum OpenPartsError<'a> {
-    /// The part with this name can't be opened.
-    Unopened(&'a str),
-    /// Memory ran out.
-    Memory,
-}
-
-impl<'a, T: Drop> From<AllocFailed<T>> for OpenPartsError<'a> {
-    ghost from_gives = { λ _ none. none ≡ LackedMemory };
-
-    fn from(_: AllocFailed<T>) -> OpenPartsError<'a> {
-        OpenPartsError::Memory
-    }
-}
 
 /// Writes the part of the dump that an order names, by the binding that it names: the binding is opened, and then the
 /// dump. The answer is the exit status.
@@ -63,7 +46,7 @@ fn open_parts<'a, S: Environment>(
     alloc: Global,
     environment: &S,
     names: &'a [String],
-) -> Result<Vec<NamedPart<'a, S::Reader>>, OpenPartsError<'a>>
+) -> Result<Vec<NamedPart<'a, S::Reader>>, OpenFilesError<'a>>
     ensures named { IfOk result (λ parts. map (λ p. p.name.now) parts.items ≡ map string_bytes names.now) }
     ensures opened { IfOk result (λ parts. AreOpened (S.opens environment.now) (map string_bytes names.now)
         (map (λ p. S.Reader.reading p.part) parts.items)) }
@@ -75,7 +58,7 @@ fn open_parts<'a, S: Environment>(
         let name = name.as_str();
         match open_part(environment, name) {
             Some(named) => parts.push(named)?,
-            None => return Err(OpenPartsError::Unopened(name)),
+            None => return Err(OpenFilesError::Unopened(name)),
         }
     }
     Ok(parts)
@@ -110,8 +93,8 @@ pub fn join_files<S: Environment, O: Sink, E: Sink>(
 {
     match open_parts(alloc, environment, order.parts.as_slice()) {
         Ok(mut parts) => write_joined(alloc, parts.as_mut_slice(), out, err),
-        Err(OpenPartsError::Unopened(name)) => refuse_file(alloc, name, b"cannot open", 3, err),
-        Err(OpenPartsError::Memory) => refuse(&Refusal::Memory, err),
+        Err(OpenFilesError::Unopened(name)) => refuse_file(alloc, name, b"cannot open", 3, err),
+        Err(OpenFilesError::Memory) => refuse(&Refusal::Memory, err),
     }
 }
 
@@ -130,8 +113,8 @@ pub fn tell_files<S: Environment, O: Sink, E: Sink>(
 {
     match open_parts(alloc, environment, order.parts.as_slice()) {
         Ok(mut parts) => tell_opened(alloc, order, parts.as_mut_slice(), out, err),
-        Err(OpenPartsError::Unopened(name)) => refuse_file(alloc, name, b"cannot open", 3, err),
-        Err(OpenPartsError::Memory) => refuse(&Refusal::Memory, err),
+        Err(OpenFilesError::Unopened(name)) => refuse_file(alloc, name, b"cannot open", 3, err),
+        Err(OpenFilesError::Memory) => refuse(&Refusal::Memory, err),
     }
 }
 
