@@ -213,12 +213,6 @@ module _ (law : ReadGoesOn) (front : GivenIsPrefix) (follows : StepsFollow) (on 
 
 -- ---- a piece of a body that is underway
 
--- after a piece the audit was given what comes out of the reader's steps
-pub HasGiven-next : (skew : Option ℕ) (head : List ℕ) (audit later : GivenSteps) (settled : Option Settling)
-    (r next : StepReading) (n : ℕ) (bytes : List ℕ) (u v : Writing)
-    → TakesPiece skew head audit later settled r bytes u v (Ok (Some (next, n))) → HasGiven skew settled later next
-HasGiven-next skew head audit later settled r next n bytes u v takes = let (_, _, given, _, _) = takes in given
-
 module _ (skew : Option ℕ) (head : List ℕ) (source now : Reading) (old new : Writing) (first audit : GivenSteps)
     (begun r : StepReading) (held left bytes : List ℕ)
     (u : IsUnderway head source now old new first audit begun r held left) (is : bytes ≡ left)
@@ -244,24 +238,21 @@ module _ (skew : Option ℕ) (head : List ℕ) (source now : Reading) (old new :
       (subst (λ (l : List ℕ). (rest : List ℕ) → WritesRest {A = Unit {0}} head audit (lines_of head audit)
       (settled_by skew (whole_reading r (l ++ rest))) later.recording new after (Ok tt)) is ends)
 
-  -- the audit continues after this piece
-  pub IsUnderway-next : (next : StepReading) (n : ℕ) (dropped : List ℕ) → dropped ≡ drop n left
-      → TakesPiece skew head audit later settled r bytes new after (Ok (Some (next, n)))
-      → IsUnderway head source now old after first later begun next held dropped
-  IsUnderway-next next n dropped drops takes =
-      let (_, taken, _, same, told) = takes in
+  -- the audit continues after this piece: it was given what comes out of the reader's steps, and is underway
+  pub IsUnderway-next : (going : Option (StepReading × ℕ)) (next : StepReading) (n : ℕ) (dropped : List ℕ)
+      → going ≡ Some (next, n) → dropped ≡ drop n left
+      → TakesPiece skew head audit later settled r bytes new after (Ok going)
+      → HasGiven skew settled later next × IsUnderway head source now old after first later begun next held dropped
+  IsUnderway-next going next n dropped goes drops takes =
+      let goes_on : TakesPiece skew head audit later settled r bytes new after (Ok (Some (next, n))) =
+      subst (λ (x : Option (StepReading × ℕ)). TakesPiece skew head audit later settled r bytes new after (Ok x)) goes
+      takes in
+      let (_, taken, given, same, told) = goes_on in
       let passes = subst (λ (l : List ℕ). (rest : List ℕ) → whole_reading r (take n l ++ rest) ≡ whole_reading next
       rest)
-      is taken in
-      subst (λ (l : List ℕ). IsUnderway head source now old after first later begun next held l) (sym drops)
-      (IsUnderway-taken skew head source now old new first audit begun r held left u later next n after passes same
-      told)
-
--- a piece after which the audit is known to continue
-pub TakesPiece-some : (skew : Option ℕ) (head : List ℕ) (audit later : GivenSteps) (settled : Option Settling)
-    (r : StepReading) (bytes : List ℕ) (u v : Writing)
-    (going : Option (StepReading × ℕ)) (next : StepReading) (n : ℕ) → going ≡ Some (next, n)
-    → TakesPiece skew head audit later settled r bytes u v (Ok going)
-    → TakesPiece skew head audit later settled r bytes u v (Ok (Some (next, n)))
-TakesPiece-some skew head audit later settled r bytes u v going next n is takes =
-    subst (λ (x : Option (StepReading × ℕ)). TakesPiece skew head audit later settled r bytes u v (Ok x)) is takes
+      is taken in (
+        given,
+        subst (λ (l : List ℕ). IsUnderway head source now old after first later begun next held l) (sym drops)
+            (IsUnderway-taken skew head source now old new first audit begun r held left u later next n after passes
+            same told),
+      )

@@ -4,11 +4,9 @@ use Rattle.vme_audit_command.specs.Bodies.{WritesRest}
 use Rattle.vme_audit_command.specs.DumpAudits.{lines_of}
 use Rattle.vme_dump_input.specs.SettledReadings.{settled_by}
 use Rattle.vme_step_reader.specs.StepReading.{whole_reading}
-use Rattle.vme_audit_command.proofs.BodyPieces.{HasGiven-next, WritesRest-unread, TakesPiece-some, AuditsBody-ends}
-use Rattle.vme_audit_command.proofs.BodyPieces.{AuditsBody-fails}
-use Rattle.vme_audit_command.proofs.BodyPieces.{IsUnderway-first, AuditsBody-last, IsUnderway-next, IsUnderway-read}
-use Rattle.vme_audit_command.proofs.BodyPieces.{AuditsBody-stops}
-use Rattle.vme_audit_command.proofs.BodyPieces.{WritesRest-cannot_read}
+use Rattle.vme_audit_command.proofs.BodyPieces.{AuditsBody-ends, AuditsBody-fails, AuditsBody-last, AuditsBody-stops}
+use Rattle.vme_audit_command.proofs.BodyPieces.{IsUnderway-first, IsUnderway-next, IsUnderway-read}
+use Rattle.vme_audit_command.proofs.BodyPieces.{WritesRest-cannot_read, WritesRest-unread}
 use Rattle.vme_audit_command.proofs.Later.{IsLater-of_none, IsLater-after, OnOk-IsLater_after}
 use Rattle.vme_audit_command.proofs.ReadLemmas.{CountsUnread-fault, CountsUnread-given_up, CountsUnread-other}
 use Rattle.vme_audit_command.proofs.ReadLemmas.{NoReadFails-counted, NoReadFails-trans}
@@ -52,22 +50,13 @@ returns-in-Ok-false-clause-audits g c = λ skew first.
     let now = g.D.Source.reading c.loop.dump in
     let after = g.D.Source.reading c.read.new.dump in
     let old = g.O.Sink.writing c.args.out.now in
-    let new = g.O.Sink.writing c.loop.out in
     let then = g.O.Sink.writing c.audit_piece.new.out in
-    let audit = c.loop.auditor in
     let later = c.audit_piece.new.auditor in
     let next = c.in-Ok-Some.next in
-    let takes = TakesPiece-some skew head audit later c.audit_piece.new.settler c.loop.reader c.bytes-held.result.now
-    new
-    then c.in-Ok-Some.field-0 next
-    c.in-Ok-Some.count c.in-Ok-Some.field-0-is (c.in-Ok-Some.ensures.takes skew h) in
-    let given = HasGiven-next skew head audit later c.audit_piece.new.settler c.loop.reader next c.in-Ok-Some.count
-    c.bytes-held.result.now new then takes in
-    let on = IsUnderway-next skew head source now old new c.args.auditor.now audit c.args.reader c.loop.reader
-    c.args.input.now
-    c.loop.input c.bytes-held.result.now u c.bytes-held.ensures later c.audit_piece.new.settler then next
-    c.in-Ok-Some.count
-    c.drop_first.new.self c.drop_first.ensures takes in
+    let (given, on) = IsUnderway-next skew head source now old (g.O.Sink.writing c.loop.out) c.args.auditor.now
+    c.loop.auditor c.args.reader c.loop.reader c.args.input.now c.loop.input c.bytes-held.result.now u
+    c.bytes-held.ensures later c.audit_piece.new.settler then c.in-Ok-Some.field-0 next c.in-Ok-Some.count
+    c.drop_first.new.self c.in-Ok-Some.field-0-is c.drop_first.ensures (c.in-Ok-Some.ensures.takes skew h) in
     let (more, read, grown) = c.in-Ok-false.ensures.more in
     let held = IsUnderway-read skew head source now old then c.args.auditor.now later c.args.reader next
     c.args.input.now
@@ -88,22 +77,13 @@ returns-in-Err-read-clause-audits g c = λ skew first.
     let source = g.D.Source.reading c.args.dump.now in
     let now = g.D.Source.reading c.loop.dump in
     let old = g.O.Sink.writing c.args.out.now in
-    let new = g.O.Sink.writing c.loop.out in
     let then = g.O.Sink.writing c.audit_piece.new.out in
-    let audit = c.loop.auditor in
     let later = c.audit_piece.new.auditor in
     let next = c.in-Ok-Some.next in
-    let takes = TakesPiece-some skew head audit later c.audit_piece.new.settler c.loop.reader c.bytes-held.result.now
-    new
-    then c.in-Ok-Some.field-0 next
-    c.in-Ok-Some.count c.in-Ok-Some.field-0-is (c.in-Ok-Some.ensures.takes skew h) in
-    let given = HasGiven-next skew head audit later c.audit_piece.new.settler c.loop.reader next c.in-Ok-Some.count
-    c.bytes-held.result.now new then takes in
-    let on = IsUnderway-next skew head source now old new c.args.auditor.now audit c.args.reader c.loop.reader
-    c.args.input.now
-    c.loop.input c.bytes-held.result.now u c.bytes-held.ensures later c.audit_piece.new.settler then next
-    c.in-Ok-Some.count
-    c.drop_first.new.self c.drop_first.ensures takes in
+    let (given, on) = IsUnderway-next skew head source now old (g.O.Sink.writing c.loop.out) c.args.auditor.now
+    c.loop.auditor c.args.reader c.loop.reader c.args.input.now c.loop.input c.bytes-held.result.now u
+    c.bytes-held.ensures later c.audit_piece.new.settler then c.in-Ok-Some.field-0 next c.in-Ok-Some.count
+    c.drop_first.new.self c.in-Ok-Some.field-0-is c.drop_first.ensures (c.in-Ok-Some.ensures.takes skew h) in
     AuditsBody-ends skew head source now old then c.args.auditor.now later c.args.reader next c.args.input.now
     c.drop_first.new.self on {A = Unit {0}} later then (Err c.not_read.result)
     (λ rest. WritesRest-unread c.reading_goes_on.ensures.breaks c.given_is_a_prefix.ensures
@@ -123,23 +103,13 @@ loop-preserved g c =
           let head = c.args.head.now in
           let source = g.D.Source.reading c.args.dump.now in
           let old = g.O.Sink.writing c.args.out.now in
-          let new = g.O.Sink.writing c.loop.out in
           let then = g.O.Sink.writing c.audit_piece.new.out in
-          let audit = c.loop.auditor in
           let later = c.audit_piece.new.auditor in
           let next = c.in-Ok-Some.next in
-          let takes = TakesPiece-some skew head audit later c.audit_piece.new.settler c.loop.reader
-          c.bytes-held.result.now
-          new then c.in-Ok-Some.field-0 next c.in-Ok-Some.count c.in-Ok-Some.field-0-is
-          (c.in-Ok-Some.ensures.takes skew h) in
-          let given = HasGiven-next skew head audit later c.audit_piece.new.settler c.loop.reader next
-          c.in-Ok-Some.count
-          c.bytes-held.result.now new then takes in
-          let on = IsUnderway-next skew head source now old new c.args.auditor.now audit c.args.reader c.loop.reader
-          c.args.input.now
-          c.loop.input c.bytes-held.result.now u c.bytes-held.ensures later c.audit_piece.new.settler then next
-          c.in-Ok-Some.count
-          c.drop_first.new.self c.drop_first.ensures takes in
+          let (given, on) = IsUnderway-next skew head source now old (g.O.Sink.writing c.loop.out) c.args.auditor.now
+          c.loop.auditor c.args.reader c.loop.reader c.args.input.now c.loop.input c.bytes-held.result.now u
+          c.bytes-held.ensures later c.audit_piece.new.settler then c.in-Ok-Some.field-0 next c.in-Ok-Some.count
+          c.drop_first.new.self c.in-Ok-Some.field-0-is c.drop_first.ensures (c.in-Ok-Some.ensures.takes skew h) in
           let (more, read, grown) = c.in-Ok-true.ensures.more in (
             given,
             IsUnderway-read skew head source now old then c.args.auditor.now later c.args.reader next c.args.input.now
@@ -172,26 +142,13 @@ returns-in-Ok-None-clause-kept g c = λ skew first.
 pub returns-in-Ok-false-clause-kept : goal.returns-in-Ok-false-clause-kept
 returns-in-Ok-false-clause-kept g c = λ skew first.
     let (h, u) = c.loop.invariant.underway skew first in
-    let head = c.args.head.now in
-    let source = g.D.Source.reading c.args.dump.now in
-    let now = g.D.Source.reading c.loop.dump in
-    let old = g.O.Sink.writing c.args.out.now in
-    let new = g.O.Sink.writing c.loop.out in
-    let then = g.O.Sink.writing c.audit_piece.new.out in
-    let audit = c.loop.auditor in
     let later = c.audit_piece.new.auditor in
-    let next = c.in-Ok-Some.next in
-    let takes = TakesPiece-some skew head audit later c.audit_piece.new.settler c.loop.reader c.bytes-held.result.now
-    new
-    then c.in-Ok-Some.field-0 next
-    c.in-Ok-Some.count c.in-Ok-Some.field-0-is (c.in-Ok-Some.ensures.takes skew h) in
-    let given = HasGiven-next skew head audit later c.audit_piece.new.settler c.loop.reader next c.in-Ok-Some.count
-    c.bytes-held.result.now new then takes in
-    let on = IsUnderway-next skew head source now old new c.args.auditor.now audit c.args.reader c.loop.reader
-    c.args.input.now
-    c.loop.input c.bytes-held.result.now u c.bytes-held.ensures later c.audit_piece.new.settler then next
-    c.in-Ok-Some.count
-    c.drop_first.new.self c.drop_first.ensures takes in
+    let (given, on) = IsUnderway-next skew c.args.head.now (g.D.Source.reading c.args.dump.now)
+    (g.D.Source.reading c.loop.dump) (g.O.Sink.writing c.args.out.now) (g.O.Sink.writing c.loop.out)
+    c.args.auditor.now c.loop.auditor c.args.reader c.loop.reader c.args.input.now c.loop.input
+    c.bytes-held.result.now u c.bytes-held.ensures later c.audit_piece.new.settler
+    (g.O.Sink.writing c.audit_piece.new.out) c.in-Ok-Some.field-0 c.in-Ok-Some.next c.in-Ok-Some.count
+    c.drop_first.new.self c.in-Ok-Some.field-0-is c.drop_first.ensures (c.in-Ok-Some.ensures.takes skew h) in
     OnOk-IsLater_after c.args.auditor.now later c.audit_last.new.auditor later.recording on.same c.audit_last.result
     (c.audit_last.ensures.kept skew given)
 
