@@ -5,7 +5,6 @@
 
 ghost use Rattle.std.specs.Prelude.{◌≡◌, ◌≢◌, ◌≤◌, ℕ, List, false, true, None, Option, IfErr, IfNone, IfOk, IfSome};
 ghost use Rattle.std.specs.Prelude.{OnOk, length};
-ghost use Rattle.vcd_read.specs.declared.fault.FaultKind.TheVariants as vcd;
 ghost use Rattle.vme_stream.specs.declared.refusal.Refusal.TheVariants.{BadDump};
 ghost use Rattle.vme_step_auditor.specs.ReadBy.{has_stopped};
 ghost use Rattle.vme_audit_command.specs.declared.written_lines.NoOutcome.TheVariants.{CannotRead, Refused};
@@ -78,35 +77,6 @@ fn outcome_at_fault(auditor: &StepAuditor<'_>, fault: VcdFault) -> Result<(), No
     }
 }
 
-/// Audits the steps before a fault of the dump, which isn't lack of memory. If the audit stops before it, the fault
-/// isn't reported.
-fn audit_faulty<O: Sink>(
-    alloc: Global,
-    auditor: &mut StepAuditor<'_>,
-    settler: &mut Option<StepSettler>,
-    stopped: StoppedSteps,
-    head: &[u8],
-    case: &mut TestCase,
-    out: &mut O,
-) -> Result<(), NoOutcome>
-    requires { stopped.fault.kind ≢ vcd.Memory }
-    ensures kept { (skew : Option ℕ) (r : StepReading) (rest : List ℕ) → HasGiven skew settler.old auditor.old r
-        → StopsBehind r.given stopped (whole_reading r rest) → OnOk result (IsLater auditor.old auditor.new) }
-    ensures ends { (skew : Option ℕ) (r : StepReading) (rest : List ℕ) → HasGiven skew settler.old auditor.old r
-        → StopsBehind r.given stopped (whole_reading r rest)
-        → WritesRest head.now auditor.old (lines_of head.now auditor.old) (settled_by skew (whole_reading r rest))
-        auditor.new.recording (O.writing out.old) (O.writing out.new) result }
-    ensures other { IfErr result (λ why. why ≢ CannotRead) }
-{
-    reading_goes_on();
-    times_go_on();
-    let StoppedSteps { steps, fault, time } = stopped;
-    match audit_settled(alloc, auditor, settler, steps, time, head, case, out) {
-        Ok(()) => outcome_at_fault(auditor, fault),
-        Err(fault) => Err(NoOutcome::NotWritten(fault)),
-    }
-}
-
 /// Audits the steps before a fault of the dump, or reports lack of memory. If the audit stops before the fault, the
 /// fault isn't reported.
 fn audit_stopped<O: Sink>(
@@ -131,7 +101,13 @@ fn audit_stopped<O: Sink>(
     times_go_on();
     match stopped.fault.kind {
         FaultKind::Memory => Err(NoOutcome::NotWritten(WriteFault::Memory)),
-        _ => audit_faulty(alloc, auditor, settler, stopped, head, case, out),
+        _ => {
+            let StoppedSteps { steps, fault, time } = stopped;
+            match audit_settled(alloc, auditor, settler, steps, time, head, case, out) {
+                Ok(()) => outcome_at_fault(auditor, fault),
+                Err(fault) => Err(NoOutcome::NotWritten(fault)),
+            }
+        }
     }
 }
 
