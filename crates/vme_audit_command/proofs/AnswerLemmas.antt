@@ -24,7 +24,7 @@ use Rattle.vme_dump_input.specs.SettledSteps.{ComesOut}
 use Rattle.vme_audit_command.specs.Definitions.{IsBodyBegun, ReadsDefinitions}
 use Rattle.vme_audit_command.specs.DumpAnswers.{AuditOptions, AnswersBody, AuditsDump, DumpAnswer, EndsAs, answer_by}
 use Rattle.vme_audit_command.specs.DumpAnswers.{reading_answer, dump_answer, last_lines}
-use Rattle.vme_audit_command.specs.DumpAudits.{WritesPrefix, break_lines, line_of_break, lines_of}
+use Rattle.vme_audit_command.specs.DumpAudits.{WritesPrefix, break_lines, line_of_break, lines_of, or_not_written}
 use Rattle.vme_audit_command.specs.LastLines.{WritesOutcome, counts_unless, outcome_line_of}
 use Rattle.vme_audit_command.specs.declared.written_lines.NoOutcome.{NoOutcome}
 use Rattle.vme_audit_command.specs.declared.written_lines.NoOutcome.TheVariants.{CannotRead, NotWritten, Refused}
@@ -136,25 +136,20 @@ module _ (skew transfers : ℕ) (is_quiet : Bool) (head : List ℕ) (first later
           writes,
         )
 
-    -- once the last lines are written too, the answer is written, with the status `status`
-    pub EndsAs-status : (status : ℕ) → WritesLast later (Ok status)
+    -- with the last lines the answer is written, with the status, or it ends without an outcome if they aren't written
+    pub EndsAs-last : (written : Result ℕ WriteFault) → WritesLast later written
         → EndsAs (reading_answer (options_by first.allowances first.stop skew transfers is_quiet) head reading) u w
-        (Ok status)
-    EndsAs-status status writes_last =
+        (or_not_written written)
+    EndsAs-last (Ok status) writes_last =
         let (text, answer, writes) = reading_answer-text in
         let (last, is) = WritesLast-by_first (Ok status) writes_last in
         subst (λ (a : DumpAnswer). EndsAs a u w (Ok status)) (sym answer)
         (Writes-append u v w text _ writes last, ap Ok (sym is))
-
-    -- if the last lines aren't written, by `fault`, the answer ends without an outcome
-    pub EndsAs-last_unwritten : (fault : WriteFault) → WritesLast later (Err fault)
-        → EndsAs (reading_answer (options_by first.allowances first.stop skew transfers is_quiet) head reading) u w
-        (Err (NotWritten fault))
-    EndsAs-last_unwritten CannotWrite writes_last =
+    EndsAs-last (Err CannotWrite) writes_last =
         let (text, answer, writes) = reading_answer-text in
         subst (λ (a : DumpAnswer). EndsAs a u w (Err (NotWritten CannotWrite))) (sym answer)
         (FailsToWrite-after u v w text _ writes (WritesLast-by_first (Err CannotWrite) writes_last))
-    EndsAs-last_unwritten Memory writes_last =
+    EndsAs-last (Err Memory) writes_last =
         let (text, answer, writes) = reading_answer-text in
         subst (λ (a : DumpAnswer). EndsAs a u w (Err (NotWritten Memory))) (sym answer)
         (WritesPrefix-after u v w text _ writes (WritesLast-by_first (Err Memory) writes_last))
@@ -193,39 +188,22 @@ module _ (allowances : List Allowance) (stop : Option ℕ) (skew transfers : ℕ
             v why ends,
       )
 
-  -- a body whose last lines are written is answered with their status
-  pub AnswersBody-outcome : (v w : Writing) (status : ℕ) → IsLater first later
+  -- a body with its last lines is answered with their status, or without an outcome if they aren't written
+  pub AnswersBody-outcome : (v w : Writing) (written : Result ℕ WriteFault) → IsLater first later
       → AuditsRest {A = Unit {0}} (skew_of skew) head first later r held is_more source u v (Ok tt)
       → WritesOutcome (counts_unless is_quiet later.allowances head (read_of later)
       ++ outcome_line_of head (outcome_of later.allowances transfers (read_of later)))
-      (outcome_of later.allowances transfers (read_of later)) v w (Ok status)
-      → AnswersBody (options_by allowances stop skew transfers is_quiet) head r held is_more source u w (Ok status)
-  AnswersBody-outcome v w status kept rest writes_last =
-      let (whole, body, ends) = rest in
-      AnswersBody-by_rules w (Ok status) (
-        whole,
-        body,
-        EndsAs-status skew transfers is_quiet head first later none
-            (settled_by (skew_of skew) (whole_reading r whole)) u v
-            w kept ends status writes_last,
-      )
-
-  -- a body whose last lines aren't written, by `fault`, is answered without an outcome
-  pub AnswersBody-unwritten : (v w : Writing) (fault : WriteFault) → IsLater first later
-      → AuditsRest {A = Unit {0}} (skew_of skew) head first later r held is_more source u v (Ok tt)
-      → WritesOutcome (counts_unless is_quiet later.allowances head (read_of later)
-      ++ outcome_line_of head (outcome_of later.allowances transfers (read_of later)))
-      (outcome_of later.allowances transfers (read_of later)) v w (Err fault)
+      (outcome_of later.allowances transfers (read_of later)) v w written
       → AnswersBody (options_by allowances stop skew transfers is_quiet) head r held is_more source u w
-      (Err (NotWritten fault))
-  AnswersBody-unwritten v w fault kept rest writes_last =
+      (or_not_written written)
+  AnswersBody-outcome v w written kept rest writes_last =
       let (whole, body, ends) = rest in
-      AnswersBody-by_rules w (Err (NotWritten fault)) (
+      AnswersBody-by_rules w (or_not_written written) (
         whole,
         body,
-        EndsAs-last_unwritten skew transfers is_quiet head first later none
+        EndsAs-last skew transfers is_quiet head first later none
             (settled_by (skew_of skew) (whole_reading r whole))
-            u v w kept ends fault writes_last,
+            u v w kept ends written writes_last,
       )
 
 -- ---- a whole dump

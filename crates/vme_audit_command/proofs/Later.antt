@@ -5,8 +5,9 @@ use Rattle.vme_trace.specs.Trace.{Trace}
 use Rattle.vme_trace.specs.WellFormed.{malformed_step}
 use Rattle.vme_trace.specs.declared.step.Step.{Step}
 use Rattle.vme_audit_command.specs.Bodies.{IsLater}
-use Rattle.vme_audit_command.specs.DumpAudits.{given_more, given_recording}
+use Rattle.vme_audit_command.specs.DumpAudits.{given_more, given_recording, or_not_written}
 use Rattle.vme_audit_command.specs.declared.written_lines.NoOutcome.{NoOutcome}
+use Rattle.vme_audit_command.specs.declared.written_lines.WriteFault.{WriteFault}
 use Rattle.vme_step_auditor.specs.ReadBy.{GivenSteps}
 use Rattle.vme_step_reader.specs.StepReading.{StepReading}
 
@@ -14,6 +15,12 @@ use Rattle.vme_step_reader.specs.StepReading.{StepReading}
 pub OnOk-any : {A E : Type 0} (P : Type 0) (result : Result A E) → P → OnOk result P
 OnOk-any P (Ok x) p = p
 OnOk-any P (Err e) p = tt
+
+-- what follows from what holds on a success of writing holds on success
+pub OnOk-or_not_written : {A : Type 0} (P Q : Type 0) (written : Result A WriteFault) → (P → Q) → OnOk written P
+    → OnOk (or_not_written written) Q
+OnOk-or_not_written P Q (Ok x) follows p = follows p
+OnOk-or_not_written P Q (Err fault) follows p = tt
 
 -- an audit by the rules of `first` that was given the well-formed recording `t` is a later state of it
 pub IsLater-given_recording : (first later : GivenSteps) (t : Trace) → later ≡ given_recording first t

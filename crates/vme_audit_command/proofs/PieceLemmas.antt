@@ -21,7 +21,7 @@ use Rattle.vme_audit.specs.Parts.{breaks}
 use Rattle.vme_audit.specs.declared.allowance.Allowance.{Allowance}
 use Rattle.vme_audit_command.specs.Bodies.{WritesRest, WritesUntil, ended_at}
 use Rattle.vme_audit_command.specs.DumpAudits.{AuditGoesOn, AuditGoesTo, GoesOn, break_lines, given_recording}
-use Rattle.vme_audit_command.specs.DumpAudits.{line_of_break, lines_of}
+use Rattle.vme_audit_command.specs.DumpAudits.{line_of_break, lines_of, or_not_written}
 use Rattle.vme_step_auditor.specs.ReadBy.{GivenSteps, is_stopped, read_by}
 use Rattle.vme_audit_command.specs.declared.written_lines.NoOutcome.{NoOutcome}
 use Rattle.vme_audit_command.specs.declared.written_lines.NoOutcome.TheVariants.{CannotRead, NotWritten, Refused}
@@ -119,7 +119,7 @@ WritesRest-cut A B law head audit reading t u v fault x on goes =
     (break_lines audit.allowances audit.stop head reading.recorded) later u v fault goes all
 
 -- all lines of a dump were written
-pub WritesRest-whole : (head : List ℕ) (audit : GivenSteps) (reading : TextReading) (t : Trace) (u v : Writing)
+WritesRest-whole : (head : List ℕ) (audit : GivenSteps) (reading : TextReading) (t : Trace) (u v : Writing)
     → reading.recorded ≡ t → reading.fault ≡ None → AuditGoesTo {A = Unit {0}} head audit t u v (Ok tt)
     → WritesRest {A = Unit {0}} head audit (lines_of head audit) reading t u v (Ok tt)
 WritesRest-whole head audit reading t u v is whole goes =
@@ -132,6 +132,18 @@ WritesRest-whole head audit reading t u v is whole goes =
             ∙ ap (λ (r : Trace). Ok (read_by audit.allowances audit.stop r)) is,
       ),
     )
+
+-- the steps up to the end of a dump were audited, and their lines written, or not all of them
+pub WritesRest-end : ReadGoesOn → (head : List ℕ) (audit later : GivenSteps) (reading : TextReading) (t : Trace)
+    (u v : Writing) (written : Result (Unit {0}) WriteFault) → ExtendsTo t reading.recorded → reading.recorded ≡ t
+    → reading.fault ≡ None → OnOk written (later ≡ given_recording audit t)
+    → AuditGoesTo {A = Unit {0}} head audit t u v written
+    → WritesRest {A = Unit {0}} head audit (lines_of head audit) reading later.recording u v (or_not_written written)
+WritesRest-end law head audit later reading t u v (Ok x) on is whole given goes =
+    subst (λ (a : GivenSteps). WritesRest {A = Unit {0}} head audit (lines_of head audit) reading a.recording u v
+    (Ok tt)) (sym given) (WritesRest-whole head audit reading t u v is whole goes)
+WritesRest-end law head audit later reading t u v (Err fault) on is whole given goes =
+    WritesRest-cut (Unit {0}) (Unit {0}) law head audit reading t u v fault later.recording on goes
 
 -- ---- a fault
 

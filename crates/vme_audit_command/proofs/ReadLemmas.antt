@@ -3,11 +3,13 @@ use Rattle.std.proofs.Common.{◌≡◌, ◌≢◌, ◌+◌, ◌≤◌, ℕ, suc
 use Rattle.std.proofs.Common.{arith}
 use Rattle.vme_trace.specs.Streams.{Reading}
 use Rattle.vme_audit_command.specs.Definitions.{unread}
+use Rattle.vme_audit_command.specs.DumpAudits.{or_not_written}
 use Rattle.vme_audit_command.specs.DumpReads.{CountsUnread, NoReadFails, most_dump_reads}
 use Rattle.vme_audit_command.specs.declared.dump_input.ReadFault.{ReadFault}
 use Rattle.vme_audit_command.specs.declared.dump_input.ReadFault.TheVariants as read
 use Rattle.vme_audit_command.specs.declared.written_lines.NoOutcome.{NoOutcome}
 use Rattle.vme_audit_command.specs.declared.written_lines.NoOutcome.TheVariants.{CannotRead, NotWritten, Refused}
+use Rattle.vme_audit_command.specs.declared.written_lines.WriteFault.{WriteFault}
 
 -- ---- no read fails
 
@@ -36,6 +38,12 @@ CountsUnread-other old new (Ok x) other none = none
 CountsUnread-other old new (Err (Refused refusal)) other none = none
 CountsUnread-other old new (Err CannotRead) other none = absurd (other refl)
 CountsUnread-other old new (Err (NotWritten fault)) other none = none
+
+-- where no read fails, the result of writing is right
+pub CountsUnread-or_not_written : {A : Type 0} (old new : Reading) (written : Result A WriteFault)
+    → NoReadFails old new → CountsUnread old new (or_not_written written)
+CountsUnread-or_not_written old new (Ok x) none = none
+CountsUnread-or_not_written old new (Err fault) none = none
 
 -- after a part in which no read failed, a read has this fault: the reason that `unread` gives is right
 pub CountsUnread-fault : (A : Type 0) (old now new : Reading) (fault : ReadFault) (why : NoOutcome)

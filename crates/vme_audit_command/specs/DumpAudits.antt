@@ -12,6 +12,8 @@ use Rattle.vme_audit.specs.Parts.{breaks}
 use Rattle.vme_audit.specs.declared.allowance.Allowance.{Allowance}
 use Rattle.vme_audit_lines.specs.AuditLines.{audit_break_text, category_of}
 use Rattle.vme_step_auditor.specs.ReadBy.{GivenSteps, read_by}
+use Rattle.vme_audit_command.specs.declared.written_lines.NoOutcome.{NoOutcome}
+use Rattle.vme_audit_command.specs.declared.written_lines.NoOutcome.TheVariants.{NotWritten}
 use Rattle.vme_audit_command.specs.declared.written_lines.WriteFault.{WriteFault}
 use Rattle.vme_audit_command.specs.declared.written_lines.WriteFault.TheVariants.{Memory, CannotWrite}
 
@@ -33,6 +35,11 @@ abbrev pub WritesText : {A : Type 0} → Writing → Writing → Result A WriteF
 WritesText old new (Ok _) text = Writes old new text
 WritesText old new (Err CannotWrite) text = FailsToWrite old new text
 WritesText old new (Err Memory) text = WritesPrefix old new text
+
+-- the result of auditing, by that of writing what was audited
+abbrev pub or_not_written : {A : Type 0} → Result A WriteFault → Result A NoOutcome
+or_not_written (Ok x) = Ok x
+or_not_written (Err fault) = Err (NotWritten fault)
 
 -- the lines after some more steps, `after`, are `before` and a text, which was written, or in part if there is an error
 abbrev pub GoesOn : {A : Type 0} → List ℕ → List ℕ → Writing → Writing → Result A WriteFault → Type 0

@@ -22,7 +22,7 @@ ghost use Rattle.vme_step_reader.specs.Stops.{StopsBehind};
 use crate::definitions::not_read;
 use crate::dump_input::DumpInput;
 use crate::junit::TestCase;
-use crate::written_lines::{NoOutcome, WriteFault, audit_steps};
+use crate::written_lines::{NoOutcome, WriteFault, audit_steps, or_not_written};
 use std::alloc::Global;
 use vcd_read::{FaultKind, VcdFault};
 use vme_dump_input::{last_steps, settled_steps};
@@ -192,10 +192,7 @@ pub(crate) fn audit_last<O: Sink>(
     given_is_a_prefix();
     times_go_on();
     match reader.finish(alloc, bytes) {
-        Ok(steps) => match audit_ended(alloc, auditor, settler, steps, head, case, out) {
-            Ok(()) => Ok(()),
-            Err(fault) => Err(NoOutcome::NotWritten(fault)),
-        },
+        Ok(steps) => or_not_written(audit_ended(alloc, auditor, settler, steps, head, case, out)),
         Err(stopped) => audit_stopped(alloc, auditor, settler, stopped, head, case, out),
     }
 }

@@ -20,7 +20,7 @@ use crate::command::AuditOptions;
 use crate::definitions::read_definitions;
 use crate::dump_input::DumpInput;
 use crate::junit::TestCase;
-use crate::written_lines::{NoOutcome, WriteFault, write_text};
+use crate::written_lines::{NoOutcome, WriteFault, or_not_written, write_text};
 use std::alloc::Global;
 use vme_audit::Outcome;
 use vme_audit_lines::{
@@ -210,10 +210,9 @@ fn audit_after_definitions<D: Source, O: Sink>(
         case,
         out,
     ) {
-        Ok(()) => match write_counts_and_outcome(alloc, &auditor, options, head, case, out) {
-            Ok(status) => Ok(status),
-            Err(fault) => Err(NoOutcome::NotWritten(fault)),
-        },
+        Ok(()) => or_not_written(write_counts_and_outcome(
+            alloc, &auditor, options, head, case, out,
+        )),
         Err(why) => Err(why),
     }
 }

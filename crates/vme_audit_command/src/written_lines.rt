@@ -6,7 +6,7 @@ ghost use Rattle.vme_audit_lines.specs.AuditLines.{audit_break_text};
 ghost use Rattle.vme_stream.specs.Texts.{line_of};
 ghost use Rattle.vme_trace.specs.Followed.{with_steps};
 ghost use Rattle.vme_trace.specs.WellFormed.{malformed_step};
-ghost use Rattle.vme_audit_command.specs.DumpAudits.{AuditGoesOn, WritesText, given_more};
+ghost use Rattle.vme_audit_command.specs.DumpAudits.{AuditGoesOn, WritesText, given_more, or_not_written};
 
 use crate::junit::TestCase;
 use std::alloc::{AllocError, Global};
@@ -43,6 +43,16 @@ pub(crate) enum NoOutcome {
     CannotRead,
     /// Not all lines are written.
     NotWritten(WriteFault),
+}
+
+/// The result of auditing, by that of writing what was audited.
+pub(crate) fn or_not_written<T>(written: Result<T, WriteFault>) -> Result<T, NoOutcome>
+    ensures { result ≡ or_not_written written }
+{
+    match written {
+        Ok(value) => Ok(value),
+        Err(fault) => Err(NoOutcome::NotWritten(fault)),
+    }
 }
 
 /// Writes `bytes` to `out`. After an error a prefix of them is written.
