@@ -2,8 +2,8 @@
 use Rattle.std.proofs.Common.{◌≡◌, ℕ, ◌+◌, ◌≤◌, ◌<◌, Bool, true, false, List, [], ◌∷◌, ◌++◌, length, take}
 use Rattle.std.proofs.Common.{Option, None, Some, refl, sym, ap, ◌∙◌, arith, append_assoc}
 use Rattle.std.proofs.Common.{length-append}
-use Rattle.std.specs.Prelude.{Ok, Err, nat_lt, slice_get}
-use Rattle.std.proofs.lemmas.Bool.Decides.{nat_tests}
+use Rattle.std.specs.Prelude.{Ok, Err, slice_get}
+use Rattle.std.proofs.lemmas.Bool.{le-ltb, lt-ltb}
 use Rattle.std.proofs.lemmas.List.{length-take-le, take_all}
 use Rattle.std.proofs.lemmas.Option.{slice_get_within}
 use Rattle.std.proofs.Math.Seq.{take-append-add}
@@ -125,6 +125,11 @@ pub HasDeskewed-counted : (skew : Option ℕ) (given : Trace) (time : ℕ) (sett
 HasDeskewed-counted skew given time settler count true t comes e = absurd (cc)
 HasDeskewed-counted skew given time settler count false t comes e = comes
 
+-- if the steps are counted, and `steps` with them, at most as many as the limit, all of them are within it
+pub length-counted : (given : Trace) (steps : List Step) (count next : ℕ) → count ≡ length given.steps
+    → next ≡ count + length steps → next ≤ capture_limit → length (given.steps ++ steps) ≤ capture_limit
+length-counted given steps count next same more few = omega (arith, same, more, few, length-append given.steps steps)
+
 -- where the steps are too many, nothing is asked of `t`
 pub HasDeskewed-from_many : (skew : Option ℕ) (given : Trace) (time : ℕ) (settler : Option Settling) (count : ℕ)
     (flag : Bool)
@@ -142,19 +147,11 @@ HasDeskewed-from_few skew given time settler count false t e same few comes = (s
 
 -- ---- the limit of a recording
 
--- a number of steps within the limit isn't above it
-nat_lt-within_limit : (n : ℕ) → n ≤ capture_limit → nat_lt capture_limit n ≡ false
-nat_lt-within_limit n few = grind (arith, nat_tests)
-
--- a number of steps past the limit is above it
-nat_lt-past_limit : (n : ℕ) → capture_limit < n → nat_lt capture_limit n ≡ true
-nat_lt-past_limit n many = grind (arith, nat_tests)
-
 -- a recording within the limit is as it is
 pub limited-fits : (t : Trace) → length t.steps ≤ capture_limit → limited t ≡ Ok t
-limited-fits t few = rw (nat_lt-within_limit (length t.steps) few) refl
+limited-fits t few = rw (le-ltb capture_limit (length t.steps) few) refl
 
 -- a recording past the limit is refused
 pub limited-long : (t : Trace) → capture_limit < length t.steps
     → limited t ≡ Err (record { line = 0; kind = TooManySteps })
-limited-long t many = rw (nat_lt-past_limit (length t.steps) many) refl
+limited-long t many = rw (lt-ltb capture_limit (length t.steps) many) refl

@@ -1,13 +1,12 @@
 -- The last steps are counted, deskewed and compared, and the check ends.
-use Rattle.std.proofs.Common.{◌≡◌, ◌≤◌, ◌++◌, length, ap, subst, ◌∙◌, arith, length-append}
+use Rattle.std.proofs.Common.{◌≡◌, ap, subst, ◌∙◌, arith}
 use Rattle.vme_trace.specs.Followed.{with_steps}
 use Rattle.vme_trace.specs.Trace.{Trace}
-use Rattle.vme_trace.specs.WellFormed.{capture_limit}
 use Rattle.vme_cert.specs.Checking.{HasCompared, HasFollowed}
 use Rattle.vme_dump_input.specs.SettledReadings.{settled_whole}
 use Rattle.vme_dump_input.proofs.ReadSteps.{settled_whole-formed}
 use Rattle.vme_confirm_command.proofs.StepLemmas.{limited-fits, limited-long, HasDeskewed-too_many}
-use Rattle.vme_confirm_command.proofs.StepLemmas.{StepsMayFollow-settled_whole, HasDeskewed-counted}
+use Rattle.vme_confirm_command.proofs.StepLemmas.{StepsMayFollow-settled_whole, HasDeskewed-counted, length-counted}
 use Rattle.vme_confirm_command.proofs.step_check.StepCheck.finish.Goals as goal
 
 pub returns-then-not-count_more-clause-finds : goal.returns-then-not-count_more-clause-finds
@@ -43,14 +42,8 @@ check_all-requires g c =
     let (skew, given, from, t, h, go) = c.requires in
     let (same, few, comes) = HasDeskewed-counted skew given from self.settler self.count self.is_too_long t h.comes
     (counted.few some).2 in
-    let long : length (given.steps ++ steps) ≤ capture_limit = omega (
-      arith,
-      counted.within some few,
-      (counted.few some).0,
-      same,
-      c.len.ensures,
-      length-append given.steps steps,
-    ) in
+    let long = length-counted given steps self.count c.count_more.new.self.count same
+    (omega (arith, (counted.few some).0, c.len.ensures)) (counted.within some few) in
     let settled = c.in-Ok.ensures skew given t from (rw counted.left.0 comes) go in (
       t,
       rw counted.left.1 h.taken,
@@ -72,14 +65,8 @@ returns-in-Ok-clause-finds g c whole version skew given from t h compared go =
     let some = c.if-not-count_more.false in
     let (same, few, comes) = HasDeskewed-counted skew given from self.settler self.count self.is_too_long t h.comes
     (counted.few some).2 in
-    let long : length (given.steps ++ steps) ≤ capture_limit = omega (
-      arith,
-      counted.within some few,
-      (counted.few some).0,
-      same,
-      c.len.ensures,
-      length-append given.steps steps,
-    ) in
+    let long = length-counted given steps self.count c.count_more.new.self.count same
+    (omega (arith, (counted.few some).0, c.len.ensures)) (counted.within some few) in
     let settled = c.in-Ok.ensures skew given t from (rw counted.left.0 comes) go in
     let is : with_steps t c.as_slice.result.now ≡ settled_whole skew (with_steps given steps) =
     ap (with_steps t) c.as_slice.ensures.value ∙ settled in

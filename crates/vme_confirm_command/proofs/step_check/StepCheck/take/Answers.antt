@@ -1,11 +1,10 @@
 -- The steps are counted, deskewed and compared.
-use Rattle.std.proofs.Common.{◌≤◌, ◌++◌, length, ap, ◌∙◌, arith, length-append}
+use Rattle.std.proofs.Common.{ap, ◌∙◌, arith, length-append}
 use Rattle.vme_trace.specs.Followed.{with_steps}
-use Rattle.vme_trace.specs.WellFormed.{capture_limit}
 use Rattle.vme_cert.specs.Checking.{HasFollowed}
 use Rattle.vme_dump_input.proofs.ReadSteps.{settled_so_far-formed}
 use Rattle.vme_confirm_command.proofs.StepLemmas.{HasDeskewed-from_few, HasDeskewed-from_many, HasDeskewed-too_many}
-use Rattle.vme_confirm_command.proofs.StepLemmas.{StepsMayFollow-settled_so_far, HasDeskewed-counted}
+use Rattle.vme_confirm_command.proofs.StepLemmas.{StepsMayFollow-settled_so_far, HasDeskewed-counted, length-counted}
 use Rattle.vme_confirm_command.proofs.step_check.StepCheck.take.Goals as goal
 
 pub returns-then-not-count_more-clause-stepped : goal.returns-then-not-count_more-clause-stepped
@@ -34,14 +33,8 @@ check_all-requires g c =
     let (skew, given, from, t, h, go) = c.requires in
     let (same, few, comes) = HasDeskewed-counted skew given from old.settler old.count old.is_too_long t h.comes
     (counted.few some).2 in
-    let long : length (given.steps ++ steps) ≤ capture_limit = omega (
-      arith,
-      counted.within some few,
-      (counted.few some).0,
-      same,
-      c.len.ensures,
-      length-append given.steps steps,
-    ) in
+    let long = length-counted given steps old.count c.count_more.new.self.count same
+    (omega (arith, (counted.few some).0, c.len.ensures)) (counted.within some few) in
     let settled = c.in_ok-settled.ensures.settled skew given t from (rw counted.left.0 comes) go in (
       t,
       rw counted.left.1 h.taken,
