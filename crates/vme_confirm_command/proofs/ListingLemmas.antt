@@ -10,14 +10,14 @@ use Rattle.vme_listing.specs.declared.row.Version.{Version}
 use Rattle.vme_stream.specs.declared.input.InFault.{InFault}
 use Rattle.vme_confirm_command.specs.Confirmations.{longest_listing}
 use Rattle.vme_dump_input.specs.BufferedInputs.{FailsAs, InputSoFar, IsAllOf}
-use Rattle.vme_confirm_command.specs.RowsOfListing.{AreRead, ListingGaveAllRows, ListingGaveRows, HasTextFault}
-use Rattle.vme_confirm_command.specs.RowsOfListing.{IsListingRead, IsOver}
+use Rattle.vme_confirm_command.specs.RowsOfListing.{AreCounted, AreRead, ListingGaveAllRows, ListingGaveRows}
+use Rattle.vme_confirm_command.specs.RowsOfListing.{HasTextFault, IsListingRead, IsOver}
 use Rattle.vme_confirm_command.specs.RowsOfListing.{IsWholeText, ReadsRow}
 use Rattle.vme_confirm_command.specs.declared.rows_fault.RowsFault.{RowsFault}
 use Rattle.vme_confirm_command.specs.declared.rows_fault.RowsFault.TheVariants.{Input, Text}
 use Rattle.vme_dump_input.proofs.BufferedLemmas.{IsAllOf-whole}
 use Rattle.vme_confirm_command.proofs.RowLemmas.{is_whole-whole_text, GivesRows-input_fault, GivesRows-text_fault}
-use Rattle.vme_confirm_command.proofs.RowLemmas.{IsTextOfListing-whole}
+use Rattle.vme_confirm_command.proofs.RowLemmas.{AreCounted-no_fault, IsTextOfListing-whole}
 
 -- ---- one row more
 
@@ -28,12 +28,22 @@ module _ (old : Reading) (version : Version) (now : Reading) (input : InputSoFar
   ListingGaveAllRows-no_more (Some fault) gave = gave
   ListingGaveAllRows-no_more None gave = absurd gave
 
-  -- while there is no fault, the rows that were given are those that were read
-  pub ListingGaveRows-read : (so_far : RowsSoFar) (fault : Option RowsFault) → fault ≡ None
-      → ListingGaveRows old version now input (Some so_far) fault rows
-      → (input.limit ≡ longest_listing) × (so_far.version ≡ version) × AreRead old now input (Ok so_far) rows
-  ListingGaveRows-read so_far None none gave = gave
-  ListingGaveRows-read so_far (Some fault) none gave = absurd (cc)
+  -- while rows are read there is no fault, and the rows that were given are those that were read
+  pub ListingGaveRows-read : (reader : Option RowsSoFar) (fault : Option RowsFault) (so_far : RowsSoFar)
+      → reader ≡ Some so_far → AreCounted reader fault input → ListingGaveRows old version now input reader fault rows
+      → (fault ≡ None) × (input.limit ≡ longest_listing) × (so_far.version ≡ version)
+      × AreRead old now input (Ok so_far) rows
+  ListingGaveRows-read reader fault so_far is counted gave =
+      by_fault fault (AreCounted-no_fault so_far fault input (subst (λ (p : Option RowsSoFar). AreCounted p fault input)
+      is counted)) (subst (λ (p : Option RowsSoFar). ListingGaveRows old version now input p fault rows) is gave)
+    where
+      -- by whether there is a fault
+      by_fault : (fault : Option RowsFault) → fault ≡ None
+          → ListingGaveRows old version now input (Some so_far) fault rows
+          → (fault ≡ None) × (input.limit ≡ longest_listing) × (so_far.version ≡ version)
+          × AreRead old now input (Ok so_far) rows
+      by_fault None none gave = (none, gave.0, gave.1, gave.2)
+      by_fault (Some why) none gave = absurd (cc)
 
   -- a row that is read is given; if none is read, the rows end
   pub ReadsRow-gives : (so_far : RowsSoFar) (fault : Option RowsFault) → fault ≡ None → input.limit ≡ longest_listing

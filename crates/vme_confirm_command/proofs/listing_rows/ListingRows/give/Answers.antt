@@ -4,7 +4,7 @@ use Rattle.vme_listing.specs.Reading.{RowsSoFar}
 use Rattle.vme_confirm_command.specs.RowsOfListing.{AreCounted, ListingGaveAllRows, ListingGaveRows, IsOver}
 use Rattle.vme_confirm_command.proofs.ListingLemmas.{ReadsRow-gives, ListingGaveAllRows-no_more, IsOver-none}
 use Rattle.vme_confirm_command.proofs.ListingLemmas.{ListingGaveRows-read}
-use Rattle.vme_confirm_command.proofs.RowLemmas.{IsCounted-AreCounted, AreCounted-no_fault}
+use Rattle.vme_confirm_command.proofs.RowLemmas.{IsCounted-AreCounted}
 use Rattle.vme_confirm_command.proofs.listing_rows.ListingRows.give.Goals as goal
 
 pub next_row-requires : goal.next_row-requires
@@ -33,34 +33,18 @@ returns-in_default-clause-over g c _ =
 pub returns-in-Ok-clause-gave : goal.returns-in-Ok-clause-gave
 returns-in-Ok-clause-gave g c old version rows gave =
     let self = c.args.self.now in
-    let so_far = c.in-Some.reader in
-    let now = g.L.Source.reading c.next_row.new.source in
-    let none = AreCounted-no_fault so_far self.fault self.input
-    (subst (λ (p : Option RowsSoFar). AreCounted p self.fault self.input) (sym c.take.ensures.value ∙ c.in-Some.is)
-    self.counted) in
-    let (limit, same, are) = ListingGaveRows-read old version (g.L.Source.reading self.source) self.input rows so_far
-    self.fault
-    none
-    (subst (λ (p : Option RowsSoFar). ListingGaveRows old version (g.L.Source.reading self.source) self.input p
-    self.fault
-    rows) (sym c.take.ensures.value ∙ c.in-Some.is) gave) in
-    ReadsRow-gives old version now c.next_row.new.input rows c.next_row.new.reader self.fault none
+    let (none, limit, same, are) = ListingGaveRows-read old version (g.L.Source.reading self.source) self.input rows
+    self.reader self.fault c.in-Some.reader (sym c.take.ensures.value ∙ c.in-Some.is) self.counted gave in
+    ReadsRow-gives old version (g.L.Source.reading c.next_row.new.source) c.next_row.new.input rows
+    c.next_row.new.reader self.fault none
     (c.next_row.ensures.limit ∙ limit) (c.next_row.ensures.version ∙ same) c.in-Ok.row
     (c.in-Ok.ensures.row old rows are limit)
 
 pub returns-in-Err-clause-gave : goal.returns-in-Err-clause-gave
 returns-in-Err-clause-gave g c old version rows gave =
     let self = c.args.self.now in
-    let so_far = c.in-Some.reader in
-    let none = AreCounted-no_fault so_far self.fault self.input
-    (subst (λ (p : Option RowsSoFar). AreCounted p self.fault self.input) (sym c.take.ensures.value ∙ c.in-Some.is)
-    self.counted) in
-    let (limit, same, are) = ListingGaveRows-read old version (g.L.Source.reading self.source) self.input rows so_far
-    self.fault
-    none
-    (subst (λ (p : Option RowsSoFar). ListingGaveRows old version (g.L.Source.reading self.source) self.input p
-    self.fault
-    rows) (sym c.take.ensures.value ∙ c.in-Some.is) gave) in
+    let (none, limit, same, are) = ListingGaveRows-read old version (g.L.Source.reading self.source) self.input rows
+    self.reader self.fault c.in-Some.reader (sym c.take.ensures.value ∙ c.in-Some.is) self.counted gave in
     subst (λ (p : Option RowsSoFar). ListingGaveAllRows old version (g.L.Source.reading c.next_row.new.source)
     c.next_row.new.input p (Some c.in-Err.fault) rows) (sym c.take.ensures.after)
     (c.next_row.ensures.limit ∙ limit, c.in-Err.ensures.row old rows are limit)
