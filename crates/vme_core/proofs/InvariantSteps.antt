@@ -121,39 +121,49 @@ module _ (limit : ℕ) (D C F T : ℕ → ℕ) (K : ℕ → Option Block) (E : �
               (record { listed = held.listed; took = held.took });
         }
 
-    -- the bench hasn't won a draw that isn't drawn
-    pub undrawn : (d : ℕ) → D d ≡ 0 → occurrences d v.draws ≡ 0
-    undrawn d is = omega (arith, le-sum_by (λ (u : View). occurrences d u.draws) vs i v e, r.draws.won_once d, is)
+    -- a draw that the bench won is drawn, and was won once
+    draws_at_most_drawn : (d : ℕ) → occurrences d v.draws ≤ D d
+    draws_at_most_drawn d = omega (
+      arith,
+      le-sum_by (λ (u : View). occurrences d u.draws) vs i v e,
+      r.draws.won_once d,
+    )
 
-    -- a number that isn't filed isn't in the bench's list
-    pub unlisted : (n : ℕ) → F n ≡ 0 → occurrences n (numbers v.list) ≡ 0
-    unlisted n is = omega (
+    -- a number that is in the bench's list is filed, and is there once
+    listed_at_most_filed : (n : ℕ) → occurrences n (numbers v.list) ≤ F n
+    listed_at_most_filed n = omega (
       arith,
       le-sum_by (λ (u : View). occurrences n (numbers u.list)) vs i v e,
       r.stages.filed_once n,
-      is,
     )
+
+    -- a number that is in the bench's takes is taken, and is there once
+    takes_at_most_taken : (n : ℕ) → occurrences n (numbers v.takes) ≤ T n
+    takes_at_most_taken n = omega (
+      arith,
+      le-sum_by (λ (u : View). occurrences n (numbers u.takes)) vs i v e,
+      r.stages.taken_once n,
+    )
+
+    -- the bit of a filed number is at most 1
+    filed_at_most_one : (n : ℕ) → F n ≤ 1
+    filed_at_most_one n = omega (arith, r.stages.pending_once n, r.stages.bit n)
+
+    -- the bench hasn't won a draw that isn't drawn
+    pub undrawn : (d : ℕ) → D d ≡ 0 → occurrences d v.draws ≡ 0
+    undrawn d is = omega (arith, draws_at_most_drawn d, is)
+
+    -- a number that isn't filed isn't in the bench's list
+    pub unlisted : (n : ℕ) → F n ≡ 0 → occurrences n (numbers v.list) ≡ 0
+    unlisted n is = omega (arith, listed_at_most_filed n, is)
 
     -- a number that isn't taken isn't in the bench's takes
     pub untaken : (n : ℕ) → T n ≡ 0 → occurrences n (numbers v.takes) ≡ 0
-    untaken n is = omega (
-      arith,
-      le-sum_by (λ (u : View). occurrences n (numbers u.takes)) vs i v e,
-      r.stages.taken_once n,
-      is,
-    )
+    untaken n is = omega (arith, takes_at_most_taken n, is)
 
     -- a number in the bench's takes is taken
     pub is_taken : (n : ℕ) → 0 < occurrences n (numbers v.takes) → T n ≡ 1
-    is_taken n is = omega (
-      arith,
-      le-sum_by (λ (u : View). occurrences n (numbers u.takes)) vs i v e,
-      r.stages.taken_once n,
-      r.stages.taken_is_filed n,
-      r.stages.pending_once n,
-      r.stages.bit n,
-      is,
-    )
+    is_taken n is = omega (arith, takes_at_most_taken n, r.stages.taken_is_filed n, filed_at_most_one n, is)
 
     -- a bench with a share and nothing pending that claims n, which wasn't claimed, keeps the invariant (`claim`)
     pub claim_preserves : v.share ≢ [] → (C' : ℕ → ℕ) (E' : ℕ → Type 0) (H' : ℕ → Block → Type 0) (n : ℕ)
@@ -381,27 +391,9 @@ module _ (limit : ℕ) (D C F T : ℕ → ℕ) (K : ℕ → Option Block) (E : �
     pub view_has_no_duplicates : ((d : ℕ) → occurrences d v.draws ≤ 1) × ((n : ℕ) → occurrences n (numbers v.list) ≤ 1)
         × ((n : ℕ) → occurrences n (numbers v.takes) ≤ 1)
     view_has_no_duplicates = (
-      (λ d. omega (
-        arith,
-        le-sum_by (λ (u : View). occurrences d u.draws) vs i v e,
-        r.draws.won_once d,
-        r.draws.bit d,
-      )),
-      (λ n. omega (
-        arith,
-        le-sum_by (λ (u : View). occurrences n (numbers u.list)) vs i v e,
-        r.stages.filed_once n,
-        r.stages.pending_once n,
-        r.stages.bit n,
-      )),
-      λ n. omega (
-        arith,
-        le-sum_by (λ (u : View). occurrences n (numbers u.takes)) vs i v e,
-        r.stages.taken_once n,
-        r.stages.taken_is_filed n,
-        r.stages.pending_once n,
-        r.stages.bit n,
-      ),
+      (λ d. omega (arith, draws_at_most_drawn d, r.draws.bit d)),
+      (λ n. omega (arith, listed_at_most_filed n, filed_at_most_one n)),
+      λ n. omega (arith, takes_at_most_taken n, r.stages.taken_is_filed n, filed_at_most_one n),
     )
 
     -- if the bench filed and took a number, it took the block that it filed
@@ -415,23 +407,6 @@ module _ (limit : ℕ) (D C F T : ℕ → ℕ) (K : ℕ → Option Block) (E : �
     -- a taken number is below `limit`
     taken_in_range : (n : ℕ) → 0 < T n → n < limit
     taken_in_range n h = filed_in_range n (omega (arith, h, r.stages.taken_is_filed n))
-
-    -- a number that is in the bench's list is filed, and is there once
-    listed_at_most_filed : (n : ℕ) → occurrences n (numbers v.list) ≤ F n
-    listed_at_most_filed n = omega (
-      arith,
-      le-sum_by (λ (u : View). occurrences n (numbers u.list)) vs i v e,
-      r.stages.filed_once
-          n,
-    )
-
-    -- a number that is in the bench's takes is taken, and is there once
-    takes_at_most_taken : (n : ℕ) → occurrences n (numbers v.takes) ≤ T n
-    takes_at_most_taken n = omega (
-      arith,
-      le-sum_by (λ (u : View). occurrences n (numbers u.takes)) vs i v e,
-      r.stages.taken_once n,
-    )
 
     -- the numbers that the bench saw filed and didn't file, and those that it filed, are at most as many as are filed
     pub list_length_bound : sum_below (missing_at v.filed (numbers v.list)) limit + length v.list ≤ sum_below F limit
