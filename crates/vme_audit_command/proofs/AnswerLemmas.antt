@@ -59,6 +59,17 @@ append-nothing_before all before text none is = is ∙ ap (λ (l : List ℕ). l 
 module _ (skew transfers : ℕ) (is_quiet : Bool) (head : List ℕ) (first later : GivenSteps)
     (none : lines_of head first ≡ [])
     (reading : TextReading) (u v : Writing) where
+  -- the answer begins with the lines of the breaks, `text`
+  reading_answer-lines_first : (text : List ℕ)
+      → break_lines first.allowances first.stop head reading.recorded ≡ lines_of head first ++ text
+      → (more : List ℕ) × ((reading_answer (options_by first.allowances first.stop skew transfers is_quiet) head
+      reading).out ≡ text ++ more)
+  reading_answer-lines_first text same =
+      let lines = break_lines first.allowances first.stop head reading.recorded in
+      let (more, is) = answer_by-lines_first (options_by first.allowances first.stop skew transfers is_quiet) head lines
+      (ended_at first.allowances first.stop reading.recorded reading.fault) in
+      (more, is ∙ ap (λ (l : List ℕ). l ++ more) (append-nothing_before lines (lines_of head first) text none same))
+
   -- if the lines of a body end without an outcome, by `why`, so does the answer
   pub EndsAs-no_outcome : (why : NoOutcome)
       → WritesRest {A = Unit {0}} head first (lines_of head first) reading later.recording u v (Err why)
@@ -75,34 +86,16 @@ module _ (skew transfers : ℕ) (is_quiet : Bool) (head : List ℕ) (first later
       ∙ ap (answer_by options head text) ended in
       subst (λ (a : DumpAnswer). EndsAs a u v (Err (Refused refusal))) (sym answer) (writes, refl)
   EndsAs-no_outcome CannotRead ends =
-      let options = options_by first.allowances first.stop skew transfers is_quiet in
       let (text, same, some) = ends in
-      let lines = break_lines first.allowances first.stop head reading.recorded in
-      let (more, is) = answer_by-lines_first options head lines (ended_at first.allowances first.stop reading.recorded
-      reading.fault)
-      in
-      let all = is ∙ ap (λ (l : List ℕ). l ++ more)
-      (append-nothing_before lines (lines_of head first) text none same) in
+      let (more, all) = reading_answer-lines_first text same in
       subst (λ (l : List ℕ). WritesPrefix u v l) (sym all) (WritesPrefix-longer u v text more some)
   EndsAs-no_outcome (NotWritten CannotWrite) ends =
-      let options = options_by first.allowances first.stop skew transfers is_quiet in
       let (text, same, fails) = ends in
-      let lines = break_lines first.allowances first.stop head reading.recorded in
-      let (more, is) = answer_by-lines_first options head lines (ended_at first.allowances first.stop reading.recorded
-      reading.fault)
-      in
-      let all = is ∙ ap (λ (l : List ℕ). l ++ more)
-      (append-nothing_before lines (lines_of head first) text none same) in
+      let (more, all) = reading_answer-lines_first text same in
       subst (λ (l : List ℕ). FailsToWrite u v l) (sym all) (FailsToWrite-longer u v text more fails)
   EndsAs-no_outcome (NotWritten Memory) ends =
-      let options = options_by first.allowances first.stop skew transfers is_quiet in
       let (text, same, some) = ends in
-      let lines = break_lines first.allowances first.stop head reading.recorded in
-      let (more, is) = answer_by-lines_first options head lines (ended_at first.allowances first.stop reading.recorded
-      reading.fault)
-      in
-      let all = is ∙ ap (λ (l : List ℕ). l ++ more)
-      (append-nothing_before lines (lines_of head first) text none same) in
+      let (more, all) = reading_answer-lines_first text same in
       subst (λ (l : List ℕ). WritesPrefix u v l) (sym all) (WritesPrefix-longer u v text more some)
 
   -- after the lines of the breaks the last lines are written
