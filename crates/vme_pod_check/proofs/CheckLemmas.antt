@@ -1,7 +1,6 @@
 -- The result of workers, and how the command ends by it, compared with the answer of a check.
-use Rattle.std.proofs.Common.{◌≡◌, ◌≤◌, ◌↔◌, ℕ, suc, List, Bool, true, false, Result, Ok, Err, refl, sym, subst}
-use Rattle.std.proofs.Common.{arith}
-use Rattle.std.specs.Prelude.{nat_lt, if◌then◌else◌, Option, Some}
+use Rattle.std.proofs.Common.{◌≡◌, ◌≤◌, ◌↔◌, ℕ, suc, List, Result, Ok, Err, refl, sym, subst, arith}
+use Rattle.std.specs.Prelude.{Option, Some}
 use Rattle.std.proofs.lemmas.Bool.{le-ltb}
 use Rattle.vme_stream.specs.Answers.{answer_by, answer_of, judgement_of, verdict_in_blocks}
 use Rattle.vme_stream.specs.Ends.{WritesAnswer}
@@ -38,16 +37,10 @@ Finds-passing (Refused refusal) there is = absurd is
 Finds-passing NoWorker there is = tt
 Finds-passing Stray there is = absurd is
 
--- if the test for too many blocks fails, the judgement is the verdict
-cond-judged : (test : Bool) (v : Verdict) → test ≡ false → (if test then Err refused.TooManyBlocks else Ok v) ≡ Ok v
-cond-judged true v e = cc
-cond-judged false v e = refl
-
 -- a recording of at most 4,096 blocks has its verdict as judgement
 verdict_in_blocks-few : (block : ℕ) (t : Trace) → block_count block t ≤ 4096 → verdict_in_blocks block t
     ≡ Ok (verdict_by rules_in_force t)
-verdict_in_blocks-few block t few = cond-judged (nat_lt 4096 (block_count block t)) (verdict_by rules_in_force t)
-    (le-ltb 4096 (block_count block t) few)
+verdict_in_blocks-few block t few = rw (le-ltb 4096 (block_count block t) few) refl
 
 -- workers that find the verdict on a recording of at most 4,096 blocks find its judgement
 pub Finds-few_blocks : (block : ℕ) (t : Trace) (given : Result Verdict Unjudged) → block_count block t ≤ 4096

@@ -1,9 +1,9 @@
 -- A run on deliveries of the blocks of a recording joins that recording, and reports the verdict on it or a fault that
 -- may come.
-use Rattle.std.proofs.Common.{◌≡◌, ℕ, zero, suc, ◌*◌, ◌<◌, ◌≤◌, List, [], ◌∷◌, length, slice_get, get_or, Some, None}
+use Rattle.std.proofs.Common.{◌≡◌, ℕ, ◌*◌, ◌<◌, ◌≤◌, List, length, slice_get, get_or, Some, None}
 use Rattle.std.proofs.Common.{Result, Ok, Err, sym, refl, ap, ◌∙◌, subst, arith}
 use Rattle.std.specs.Prelude.{All, IfErr, IfOk}
-use Rattle.std.proofs.lemmas.Option.{none-some, same_Some, slice_get-get_or}
+use Rattle.std.proofs.lemmas.Option.{get_or_from_slice_get, same_Some, slice_get-get_or, slice_get_within}
 use Rattle.std.proofs.lemmas.List.FromFn.{get_or-map-range_with_len, length-map-range_with_len}
 use Rattle.vme_trace.specs.Blocks.{block_at, block_count, blocks_of}
 use Rattle.vme_trace.specs.WellFormed.{malformed_step}
@@ -27,9 +27,7 @@ use Rattle.vme_pod_check.specs.declared.unjudged.Unjudged.TheVariants.{NoWorker}
 
 -- what holds of all items holds of the item with the index k
 All-at : (P : Block → Type 0) (xs : List Block) (k : ℕ) (x : Block) → All P xs → slice_get xs k ≡ Some x → P x
-All-at P [] k x all at = absurd (none-some x at)
-All-at P (y ∷ ys) zero x all at = subst P (same_Some y x at) (all zero y (omega arith))
-All-at P (y ∷ ys) (suc k) x all at = All-at P ys k x (λ j d l. all (suc j) d (omega (arith, l))) at
+All-at P xs k x all at = subst P (get_or_from_slice_get xs k x x at) (all k x (slice_get_within xs k x at))
 
 -- the content of deliveries of some blocks is those blocks
 pub IsContent-unique : (blocks deliveries : List Block) (answers : List Answer) (content : List Block) (total : ℕ)
