@@ -66,7 +66,7 @@ fn judged_by_skew<K: GhostSkew, B: Source, D: Source, J: ChunkJudge>(
         stream_judge,
     );
     let settled = taken_in_order(alloc, piece, &bound, dump, settling)?;
-    settled_judge(alloc, settled)
+    settled_visitor(alloc, settled)
 }
 
 /// `visitor`, after it took the recording that a binding makes of a dump, which is read in order, `piece`
@@ -100,22 +100,23 @@ fn taken_in_order<F: StepVisitor, D: Source>(
     }
 }
 
-/// The judge that took a deskewed recording, whose last group of steps ends here. The limit on steps counts those
+/// The visitor that took a deskewed recording, whose last group of steps ends here. The limit on steps counts those
 /// before deskewing.
-fn settled_judge<K: GhostSkew, J: ChunkJudge>(
+pub fn settled_visitor<K: GhostSkew, F: StepVisitor>(
     alloc: Global,
-    settling: SettlingVisitor<K, StreamJudge<J>>,
-) -> Result<StreamJudge<J>, Refusal>
+    settling: SettlingVisitor<K, F>,
+) -> Result<F, Refusal>
     ensures gives { malformed_step settling ≡ None
-        → AnswerGives (λ w. w) result (settled_or K.skew (or_bad_binding (limited settling))) }
-    ensures formed { malformed_step settling ≡ None → IfOk result (λ w. malformed_step w ≡ None) }
-    ensures short { malformed_step settling ≡ None → IfOk result (λ w. length w.steps ≤ capture_limit) }
+        → AnswerGives (λ w. F.recorded w) result (settled_or K.skew (or_bad_binding (limited settling))) }
+    ensures formed { malformed_step settling ≡ None → IfOk result (λ w. malformed_step (F.recorded w) ≡ None) }
+    ensures short { malformed_step settling ≡ None
+        → IfOk result (λ w. length (F.recorded w).steps ≤ capture_limit) }
 {
     if settling.is_too_long() {
         return Err(Refusal::of_judging(NoVerdict::TooManySteps));
     }
     match settling.finish(alloc) {
-        Ok(judge) => Ok(judge),
+        Ok(visitor) => Ok(visitor),
         Err(_) => Err(Refusal::Memory),
     }
 }

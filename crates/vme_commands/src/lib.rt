@@ -8,7 +8,8 @@
 //!   that write texts for people, as `explain`, are vme_text_commands'.
 //! - `judged_recording`: the recording that both judge, as it is read: by `judged_dump` and
 //!   `workers`, which say in which pieces and by how many; or by `judged_settled`, deskewed, in
-//!   order. `settled`: a recording that is deskewed by 0 is itself ([`unsettled`]).
+//!   order ([`settled_visitor`] also ends the recording of `explain`). `settled`: a recording that
+//!   is deskewed by 0 is itself ([`unsettled`]).
 //! - `allowance`, `words`, `built_in`: which breaks the arguments of an audit allow; how a call
 //!   without an order ends; what is used without arguments. The audit is vme_audit_command's.
 //!
@@ -50,6 +51,7 @@ mod workers;
 
 pub use allowance::{allowance_of, allowances_of};
 pub use built_in::{BLOCK, BUILT_IN, READS_TERMINAL};
+pub use judged_settled::settled_visitor;
 pub use settled::unsettled;
 pub use words::{unread_words, words_status};
 pub use workers::Workers;

@@ -29,8 +29,7 @@ use Rattle.vme_text_commands.specs.ExplainedDumps.{GivesAccount, or_too_long}
 use Rattle.vme_commands.specs.Settled.{settled_judgement, settled_read}
 use Rattle.vme_skew.specs.Settled.{settled, settled_or}
 use Rattle.vme_stream.proofs.AnswerLemmas.{capture_read-bound, capture_read-refused, AnswerGives-then}
-use Rattle.vme_commands.proofs.SettledLemmas.{settled_judgement-refused, settled_read-refused, settled_or-within}
-use Rattle.vme_commands.proofs.SettledLemmas.{settled_or-refused}
+use Rattle.vme_commands.proofs.SettledLemmas.{settled_judgement-refused, settled_read-refused, settled_or-refused}
 use Rattle.vme_commands.proofs.SettledLemmas.{length-settled_within}
 
 -- if a binding is read, the verdict on the deskewed recording is that on what this binding makes of the dump
@@ -86,6 +85,17 @@ or_too_long-fits t short = rw (le-ltb capture_limit (length t.steps) short) refl
 pub or_too_long-over : (t : Trace) → capture_limit < length t.steps → or_too_long t
     ≡ Err (judging_refusal no_verdict.TooManySteps)
 or_too_long-over t long = rw (lt-ltb capture_limit (length t.steps) long) refl
+
+-- a deskewed recording isn't too long where the one before it isn't
+pub settled_or-short : (skew : ℕ) (t : Trace) → (settled_or skew (or_too_long t) >>= or_too_long)
+    ≡ settled_or skew (or_too_long t)
+settled_or-short skew t = by_test (nat_lt capture_limit (length t.steps)) refl
+  where
+    -- by whether the one before it is too long
+    by_test : (long : Bool) → nat_lt capture_limit (length t.steps) ≡ long
+        → (settled_or skew (or_too_long t) >>= or_too_long) ≡ settled_or skew (or_too_long t)
+    by_test true is = rw is refl
+    by_test false is = rw is (or_too_long-fits (settled skew t) (length-settled_within skew t (settled skew t) is refl))
 
 -- ---- the number of blocks
 
@@ -157,15 +167,6 @@ pub GivesAccount-unsettled : (skew : ℕ) (r : Refusal) (read : Result Trace Ref
 GivesAccount-unsettled skew r read gives =
     GivesAccount-refused r (settled_or skew (read >>= or_too_long))
     (settled_or-refused skew (read >>= or_too_long) r (AnswerGives-then r read or_too_long gives))
-
--- the account of the deskewed recording `made` is the one that `explain` gives, if the recording `t` isn't too long
-pub GivesAccount-settled : (skew : ℕ) (t made : Trace) (a : Result Account Refusal)
-    → nat_lt capture_limit (length t.steps) ≡ false → made ≡ settled skew t → GivesAccount a (or_too_long made)
-    → GivesAccount a (settled_or skew (or_too_long t))
-GivesAccount-settled skew t made a within is gives =
-    let fits = settled_or-within skew t made within is in
-    let short = length-settled_within skew t made within is in
-    subst (GivesAccount a) (or_too_long-fits made short ∙ sym fits) gives
 
 -- an explanation by an account has the verdict on the captured recording
 pub AnswerGives-by_account : (told : Result Explained Refusal) (a : Account) (captured : Result Trace Refusal)

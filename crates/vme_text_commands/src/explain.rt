@@ -27,6 +27,7 @@ use std::alloc::{AllocError, Global};
 use std::marker::Brand;
 use vme_account::{Account, AccountVisitor, NoAccount};
 use vme_bind::Binding;
+use vme_commands::settled_visitor;
 use vme_explain::{Subject, explanation, save_file};
 use vme_picture::picture;
 use vme_skew::{GhostSkew, SettlingVisitor};
@@ -307,24 +308,7 @@ fn account_by_skew<K: GhostSkew>(
         → GivesAccount result (settled_or K.skew (short_read read)) }
 {
     let settling = taken?;
-    settled_account_in(alloc, settling)
-}
-
-/// The account of a deskewed recording, whose last group of steps ends here. The limit on steps counts those before
-/// deskewing.
-fn settled_account_in<K: GhostSkew>(
-    alloc: Global,
-    settling: SettlingVisitor<K, AccountVisitor>,
-) -> Result<Account, Refusal>
-    ensures { malformed_step settling ≡ None → GivesAccount result (settled_or K.skew (or_too_long settling)) }
-{
-    if settling.is_too_long() {
-        return Err(Refusal::of_judging(NoVerdict::TooManySteps));
-    }
-    match settling.finish(alloc) {
-        Ok(visitor) => account_in(visitor),
-        Err(_) => Err(Refusal::Memory),
-    }
+    account_of(settled_visitor(alloc, settling))
 }
 
 /// The explanation of a recording by its account, or why there is none.

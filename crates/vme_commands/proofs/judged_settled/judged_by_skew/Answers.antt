@@ -48,8 +48,8 @@ returns g c =
         bytes,
         bound_reading,
         reading,
-        rw (settled_read-recorded g.K.GhostSkew.skew bound bytes _ recorded) (c.settled_judge.ensures.gives well),
+        rw (settled_read-recorded g.K.GhostSkew.skew bound bytes _ recorded) (c.settled_visitor.ensures.gives well),
       );
-      formed = c.settled_judge.ensures.formed well;
-      short = c.settled_judge.ensures.short well;
+      formed = c.settled_visitor.ensures.formed well;
+      short = c.settled_visitor.ensures.short well;
     }
