@@ -30,6 +30,8 @@
 //! - A piece that is read separately is read as in its place, where it fits, and `may_join` says
 //!   yes exactly there (`IsReadDetached`, `MayFollow`).
 //! - [`whole_tokens`] cuts a text between two tokens (`apart`).
+//! - [`bracketed`] finds the brackets that a reference ends with, and [`index_between`] answers the
+//!   numbers between them.
 //!
 //! # What isn't proved
 //!
@@ -91,6 +93,7 @@ pub use head::{Head, read_definitions};
 pub use lines::line_feeds;
 pub use pieces::{BodyReader, Front, read_front};
 pub use read::read_vcd;
+pub use reference::{bracketed, index_between};
 pub use scopes::Scopes;
 pub use stopped::Stopped;
 pub use token::whole_tokens;

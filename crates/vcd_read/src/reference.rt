@@ -30,7 +30,7 @@ fn index_number(text: &[u8]) -> Option<u32>
 }
 
 /// The index between two brackets: a number, or two with a colon between them.
-fn index_between(text: &[u8]) -> Option<(u32, u32)>
+pub fn index_between(text: &[u8]) -> Option<(u32, u32)>
     ensures { result ≡ index_between text.now }
 {
     match memchr(b':', text) {
@@ -59,7 +59,7 @@ fn index_of(text: &[u8], size: u32) -> Option<(u32, u32)>
 }
 
 /// What is before the last `[` of a text that ends with `]`, and what is between these two.
-fn bracketed(text: &[u8]) -> Option<(&[u8], &[u8])>
+pub fn bracketed(text: &[u8]) -> Option<(&[u8], &[u8])>
     ensures { option_map (λ parts. (parts.0.now, parts.1.now)) result ≡ bracketed text.now }
 {
     let [front @ .., b']'] = text else {

@@ -3,7 +3,7 @@
 //!
 //! # Parts
 //!
-//! - `binding`, `statements`, `words`, `group`, `assignment`, `source`, `selection`: a binding
+//! - `binding`, `statements`, `words`, `group`, `assignment`, `source`: a binding
 //!   ([`read_binding`]), and the lines of its text.
 //! - `fault`: why a text is no binding, or makes no recording of a dump.
 //! - `path_search`, `search`, `bound_groups`, `net_lines`: which variable a path means, and which
@@ -73,7 +73,6 @@ mod net_lines;
 mod path_search;
 mod recorder;
 mod search;
-mod selection;
 mod source;
 mod speculative_reader;
 mod statements;

@@ -3,9 +3,8 @@
 ghost use Rattle.std.specs.Prelude.{◌≡◌, IfOk};
 ghost use Rattle.vcd_read.specs.Header.{bracketed};
 
-use crate::selection::{bracketed, index_between};
 use std::alloc::{AllocError, Global};
-use vcd_read::Path;
+use vcd_read::{Path, bracketed, index_between};
 use vme_trace::Level;
 
 /// Variables of a dump, or some of their bits.
