@@ -6,7 +6,7 @@
 //! - `section`: the section that ends the definitions of a text ([`definitions_end`]).
 //! - `times`: the time stamps of a body, and where they are ([`TimePlaces`]).
 //! - `codes`: codes that no variable has ([`unused_codes`]).
-//! - `token_reader`: the tokens of a text. `number`: decimal numbers.
+//! - `token_reader`: the tokens of a text.
 //!
 //! # What is proved
 //!
@@ -29,7 +29,6 @@
 #![tactic(auto)]
 
 mod codes;
-mod number;
 mod section;
 mod times;
 mod token_reader;

@@ -8,10 +8,10 @@ ghost use Rattle.vcd_places.specs.Items.{begun_kind, kind_of};
 ghost use Rattle.vcd_places.specs.Places.{IsAtTime};
 ghost use Rattle.vcd_places.specs.Times.{IsBetweenItems, times_left};
 
-use crate::number::time_of;
 use crate::section::skip_past_end;
 use crate::token_reader::TokenReader;
 use std::marker::Model;
+use vcd_read::time_of;
 
 /// A time stamp of a body.
 #[derive(Clone, Copy, Debug, PartialEq, Eq)]
@@ -122,15 +122,16 @@ impl<'a> TimePlaces<'a> {
         let mut reader = TokenReader::new(self.text, self.at);
         while let Some(token) = reader.next() {
             match what_begins(token.bytes) {
-                BegunItem::Time(digits) => {
-                    if let Some(time) = time_of(digits) {
+                BegunItem::Time(digits) => match time_of(digits) {
+                    Ok(time) => {
                         self.at = reader.at;
                         return Some(TimePlace {
                             time,
                             end: reader.at,
                         });
                     }
-                }
+                    Err(_) => {}
+                },
                 BegunItem::Code => {
                     reader.next()?;
                 }

@@ -22,7 +22,7 @@ use crate::body_state::BodyState;
 use crate::change_visitor::ChangeVisitor;
 use crate::codes::Codes;
 use crate::fault::{FaultKind, VcdFault};
-use crate::number::decimal;
+use crate::number::time_of;
 use crate::open_item::{Digits, OpenItem};
 use crate::shape::{Shape, is_end, shape_of};
 use crate::stopped::Stopped;
@@ -215,7 +215,7 @@ impl<'a, 'c, T: ChangeVisitor> Body<'a, 'c, T> {
             (body_fold (T.taken self.old.timed.visitor) self.old.timed.clock) self.old.dump_section)
             (time_item (line_of self.old.reader.text start) digits.now)) }
     {
-        match decimal(digits, u64::MAX, FaultKind::BadToken) {
+        match time_of(digits) {
             Ok(time) => self.go_to(alloc, start, time),
             Err(kind) => Err(self.reader.fault(start, kind)),
         }

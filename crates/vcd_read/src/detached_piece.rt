@@ -11,8 +11,7 @@ use crate::body::read_piece;
 use crate::body_piece::{BodyPiece, Start};
 use crate::body_state::BodyState;
 use crate::change_visitor::ChangeVisitor;
-use crate::fault::FaultKind;
-use crate::number::decimal;
+use crate::number::time_of;
 use crate::open_item::OpenItem;
 use crate::pieces::BodyReader;
 use crate::shape::{Shape, shape_of};
@@ -42,7 +41,7 @@ fn first_time(text: BodyPiece<'_>) -> Option<u64>
     let mut reader = Reader { text, at: 0 };
     let token = reader.next()?;
     match shape_of(token.bytes) {
-        Shape::Time(digits) => match decimal(digits, u64::MAX, FaultKind::BadToken) {
+        Shape::Time(digits) => match time_of(digits) {
             Ok(time) => Some(time),
             Err(_) => None,
         },

@@ -30,6 +30,7 @@
 //! - A piece that is read separately is read as in its place, where it fits, and `may_join` says
 //!   yes exactly there (`IsReadDetached`, `MayFollow`).
 //! - [`whole_tokens`] cuts a text between two tokens (`apart`).
+//! - [`time_of`] answers the time that the digits of a time token denote.
 //! - [`bracketed`] finds the brackets that a reference ends with, and [`index_between`] answers the
 //!   numbers between them.
 //!
@@ -91,6 +92,7 @@ pub use dump::{Bit, Bits, Dump, Instant, Path, Value, Values, Variable};
 pub use fault::{FaultKind, VcdFault};
 pub use head::{Head, read_definitions};
 pub use lines::line_feeds;
+pub use number::time_of;
 pub use pieces::{BodyReader, Front, read_front};
 pub use read::read_vcd;
 pub use reference::{bracketed, index_between};

@@ -10,4 +10,4 @@ returns-in-Ok c =
     let token = c.in_ok-token.token in
     time_first-read (left_at text 0) _ (token_at text token.at token.bytes.now) c.in-Time.digits.now c.in-Ok.time
     c.in_ok-token.ensures.token
-    (sym (ap found_shape c.in-Time.is) ∙ c.shape_of.ensures) (sym c.decimal.ensures ∙ c.in-Ok.is)
+    (sym (ap found_shape c.in-Time.is) ∙ c.shape_of.ensures) (sym c.time_of.ensures ∙ c.in-Ok.is)

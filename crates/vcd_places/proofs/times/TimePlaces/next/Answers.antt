@@ -1,4 +1,5 @@
 use Rattle.std.proofs.Common.{◌≡◌, ℕ, ◌∷◌, [], ◌++◌, List, refl, sym, ap, subst, ◌∙◌, arith}
+use Rattle.vcd_places.specs.Places.{if_time}
 use Rattle.vcd_places.specs.Times.{IsBetweenItems, times_left}
 use Rattle.vcd_places.proofs.ItemLemmas.{IsAtTime-time, IsBetweenItems-next, IsItem-code, IsItem-comment}
 use Rattle.vcd_places.proofs.ItemLemmas.{times_left-comment_unended, IfNone-always}
@@ -16,40 +17,40 @@ invariant_of-self c =
     let bytes = c.in-Some.token.bytes.now in
     let one = rw c.loop-token.invariant.same at c.in-Some.ensures.token in
     let t = token text at next bytes one in
-    let item = IsItem-timed t c.in-Time.digits.now c.in-Some-time_of.time (sym c.in-Time.ensures)
-    (sym c.in-Some-time_of.ensures) in
+    let item = IsItem-timed t c.in-Time.digits.now c.in-Ok.time (sym c.in-Time.ensures)
+    (ap if_time (sym c.time_of.ensures ∙ c.in-Ok.is)) in
     let taken = AreTaken-one text at next bytes one in
     subst (λ (text : List ℕ). IsBetweenItems text next) (sym c.loop-token.invariant.text)
-    (IsBetweenItems-next text at next (t ∷ []) (c.in-Some-time_of.time ∷ []) c.loop-token.invariant.between taken item)
+    (IsBetweenItems-next text at next (t ∷ []) (c.in-Ok.time ∷ []) c.loop-token.invariant.between taken item)
 
-pub returns-in-Some-time_of-clause-time : goal.returns-in-Some-time_of-clause-time
-returns-in-Some-time_of-clause-time c =
+pub returns-in-Ok-clause-time : goal.returns-in-Ok-clause-time
+returns-in-Ok-clause-time c =
     let text = c.args.self.now.text in
     let at = c.loop-token.reader.at in
     let next = c.next.new.self.at in
     let bytes = c.in-Some.token.bytes.now in
     let one = rw c.loop-token.invariant.same at c.in-Some.ensures.token in
     let t = token text at next bytes one in
-    let item = IsItem-timed t c.in-Time.digits.now c.in-Some-time_of.time (sym c.in-Time.ensures)
-    (sym c.in-Some-time_of.ensures) in
+    let item = IsItem-timed t c.in-Time.digits.now c.in-Ok.time (sym c.in-Time.ensures)
+    (ap if_time (sym c.time_of.ensures ∙ c.in-Ok.is)) in
     let taken = AreTaken-one text at next bytes one in
     sym c.loop-token.invariant.left
-    ∙ times_left-next text at next (t ∷ []) (c.in-Some-time_of.time ∷ []) c.loop-token.invariant.between taken item
-    ∙ ap (λ (text : List ℕ). c.in-Some-time_of.time ∷ times_left (record { text = text; at = next }))
+    ∙ times_left-next text at next (t ∷ []) (c.in-Ok.time ∷ []) c.loop-token.invariant.between taken item
+    ∙ ap (λ (text : List ℕ). c.in-Ok.time ∷ times_left (record { text = text; at = next }))
     (sym c.loop-token.invariant.text)
 
-pub returns-in-Some-time_of-clause-place : goal.returns-in-Some-time_of-clause-place
-returns-in-Some-time_of-clause-place c =
+pub returns-in-Ok-clause-place : goal.returns-in-Ok-clause-place
+returns-in-Ok-clause-place c =
     let text = c.args.self.now.text in
     let at = c.loop-token.reader.at in
     let next = c.next.new.self.at in
     let bytes = c.in-Some.token.bytes.now in
     let one = rw c.loop-token.invariant.same at c.in-Some.ensures.token in
-    IsAtTime-time text at next bytes c.in-Time.digits.now c.in-Some-time_of.time c.loop-token.invariant.between one
-    (sym c.in-Time.ensures) (sym c.in-Some-time_of.ensures)
+    IsAtTime-time text at next bytes c.in-Time.digits.now c.in-Ok.time c.loop-token.invariant.between one
+    (sym c.in-Time.ensures) (ap if_time (sym c.time_of.ensures ∙ c.in-Ok.is))
 
-pub loop-token-preserved-in_default-time_of : goal.loop-token-preserved-in_default-time_of
-loop-token-preserved-in_default-time_of c =
+pub loop-token-preserved-in-Err : goal.loop-token-preserved-in-Err
+loop-token-preserved-in-Err c =
     let text = c.args.self.now.text in
     let at = c.loop-token.reader.at in
     let next = c.next.new.self.at in
@@ -58,7 +59,8 @@ loop-token-preserved-in_default-time_of c =
     let t = token text at next bytes one in
     let step = IsBetweenItems-without_time text at next (t ∷ []) c.loop-token.invariant.between
     (AreTaken-one text at next bytes one)
-    (IsItem-untimed t c.in-Time.digits.now (sym c.in-Time.ensures) (sym c.time_of.ensures ∙ c.in_default-time_of.is)) in
+    (IsItem-untimed t c.in-Time.digits.now (sym c.in-Time.ensures)
+    (ap if_time (sym c.time_of.ensures ∙ c.in-Err.is))) in
     record {
       same = c.in-Some.ensures.text ∙ c.loop-token.invariant.same;
       text = c.loop-token.invariant.text;
