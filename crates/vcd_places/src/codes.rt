@@ -8,9 +8,9 @@ ghost use Rattle.vcd_read.specs.Header.{is_code};
 ghost use Rattle.vcd_read.specs.Tokens.{tokens};
 ghost use Rattle.vcd_places.specs.Codes.{IsUnused, is_token, vec_code_number};
 
-use crate::section::is_end;
 use crate::token_reader::TokenReader;
 use std::alloc::{AllocError, Global};
+use vcd_read::is_end;
 
 /// The number of `word`, if it is a code and its number is below `limit`.
 fn number_below(word: &[u8], limit: usize) -> Option<usize>

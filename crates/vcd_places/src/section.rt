@@ -3,7 +3,6 @@
 ghost use Rattle.std.specs.Prelude.{◌≡◌, ◌<◌, ◌≤◌, false, true, None, IfNone, IfSome, length};
 ghost use Rattle.std.specs.List.{list_any};
 ghost use Rattle.vcd_read.specs.Body.{body_from, ready};
-ghost use Rattle.vcd_read.specs.Header.{is_end, opens_section};
 ghost use Rattle.vcd_read.specs.Reading.{tokens_after};
 ghost use Rattle.vcd_places.specs.Places.{ends_definitions_at, IsAtTime, times_of_body, body_in};
 ghost use Rattle.vcd_places.specs.NextTokens.{IsTakenToEnd, ends_section};
@@ -11,6 +10,7 @@ ghost use Rattle.vcd_places.specs.Times.{times_left};
 
 use crate::times::TimePlaces;
 use crate::token_reader::TokenReader;
+use vcd_read::{is_end, opens_section};
 
 /// Where the section that ends the definitions of a text is.
 #[derive(Clone, Copy, Debug, PartialEq, Eq)]
@@ -19,20 +19,6 @@ pub struct EndSection {
     pub start: usize,
     /// The place after its `$end`.
     pub end: usize,
-}
-
-/// Whether a token is `$end`.
-pub(crate) fn is_end(word: &[u8]) -> bool
-    ensures { result ≡ is_end word.now }
-{
-    word == b"$end".as_slice()
-}
-
-/// Whether a token opens a section.
-fn opens_section(word: &[u8]) -> bool
-    ensures { result ≡ opens_section word.now }
-{
-    matches!(word, [b'$', ..]) && !is_end(word)
 }
 
 /// Takes the tokens up to and including the next `$end`, or all that are left. Answers whether there is an `$end`.

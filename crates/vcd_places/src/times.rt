@@ -1,9 +1,7 @@
 //! Where the time stamps of a body are.
 
 ghost use Rattle.std.specs.Prelude.{◌≡◌, ◌∷◌, ◌<◌, ◌≤◌, [], true, IfNone, IfSome};
-ghost use Rattle.std.specs.List.{list_all};
-ghost use Rattle.vcd_read.specs.Body.{are_bits, shape_of};
-ghost use Rattle.vcd_read.specs.Numbers.{is_bit};
+ghost use Rattle.vcd_read.specs.Body.{shape_of};
 ghost use Rattle.vcd_places.specs.Items.{begun_kind, kind_of};
 ghost use Rattle.vcd_places.specs.Places.{IsAtTime};
 ghost use Rattle.vcd_places.specs.Times.{IsBetweenItems, times_left};
@@ -11,7 +9,7 @@ ghost use Rattle.vcd_places.specs.Times.{IsBetweenItems, times_left};
 use crate::section::skip_past_end;
 use crate::token_reader::TokenReader;
 use std::marker::Model;
-use vcd_read::time_of;
+use vcd_read::{are_bits, time_of};
 
 /// A time stamp of a body.
 #[derive(Clone, Copy, Debug, PartialEq, Eq)]
@@ -50,27 +48,6 @@ pub(crate) enum BegunItem<'a> {
     Comment,
     /// An item of one token.
     Whole,
-}
-
-/// Whether a digit is 0, 1, x or z.
-fn is_bit(digit: u8) -> bool
-    ensures { result ≡ is_bit digit }
-{
-    matches!(digit, b'0' | b'1' | b'x' | b'X' | b'z' | b'Z')
-}
-
-/// Whether `digits` is one or more digits of a vector.
-fn are_bits(digits: &[u8]) -> bool
-    ensures { result ≡ are_bits digits.now }
-{
-    !digits.is_empty() && all_bits(digits)
-}
-
-/// Whether each digit is 0, 1, x or z.
-fn all_bits(digits: &[u8]) -> bool
-    ensures { result ≡ list_all is_bit digits.now }
-{
-    digits.iter().all(|digit| is_bit(*digit))
 }
 
 /// What a token of a body begins.

@@ -5,6 +5,8 @@ ghost use Rattle.vcd_read.specs.Tokens.{is_space};
 ghost use Rattle.vcd_read.specs.Reading.{tokens_after};
 ghost use Rattle.vcd_places.specs.NextTokens.{IsNextToken, IsTokenAt, is_token_boundary};
 
+use vcd_read::{is_space, word_end};
+
 /// A token, and where it is.
 #[derive(Clone, Copy)]
 pub(crate) struct PlacedToken<'a> {
@@ -24,13 +26,6 @@ pub(crate) struct TokenReader<'a> {
     ghost boundary: { is_token_boundary text.now at ≡ true },
 }
 
-/// Whether a byte is white space.
-fn is_space(b: u8) -> bool
-    ensures { result ≡ is_space b }
-{
-    matches!(b, b'\t' | b'\n' | b'\r' | b' ')
-}
-
 /// The first place from `at` on whose byte is no white space, or the end.
 fn word_start(text: &[u8], at: usize) -> usize
     requires { at ≤ length text.now }
@@ -41,21 +36,6 @@ fn word_start(text: &[u8], at: usize) -> usize
 {
     let mut i = at;
     while i < text.len() && is_space(text[i]) {
-        i += 1;
-    }
-    i
-}
-
-/// The first place from `at` on whose byte is white space, or the end.
-fn word_end(text: &[u8], at: usize) -> usize
-    requires { at ≤ length text.now }
-    ensures low { at ≤ result }
-    ensures high { result ≤ length text.now }
-    ensures word { (k : ℕ) → at ≤ k → k < result → is_space (slice_index text.now k) ≡ false }
-    ensures end { result < length text.now → is_space (slice_index text.now result) ≡ true }
-{
-    let mut i = at;
-    while i < text.len() && !is_space(text[i]) {
         i += 1;
     }
     i

@@ -67,7 +67,7 @@ fn is_code(word: &[u8]) -> bool
 }
 
 /// Whether a token opens a section.
-fn opens_section(word: &[u8]) -> bool
+pub fn opens_section(word: &[u8]) -> bool
     ensures { result ≡ opens_section word.now }
 {
     matches!(word, [b'$', ..]) && !is_end(word)

@@ -30,7 +30,8 @@
 //! - A piece that is read separately is read as in its place, where it fits, and `may_join` says
 //!   yes exactly there (`IsReadDetached`, `MayFollow`).
 //! - [`whole_tokens`] cuts a text between two tokens (`apart`).
-//! - [`time_of`] answers the time that the digits of a time token denote.
+//! - [`is_space`], [`word_end`], [`is_end`], [`opens_section`], [`are_bits`] and [`time_of`] answer
+//!   what the grammar says of a byte, of the end of a word, of a token and of digits.
 //! - [`bracketed`] finds the brackets that a reference ends with, and [`index_between`] answers the
 //!   numbers between them.
 //!
@@ -91,12 +92,14 @@ pub use detached_piece::DetachedPiece;
 pub use dump::{Bit, Bits, Dump, Instant, Path, Value, Values, Variable};
 pub use fault::{FaultKind, VcdFault};
 pub use head::{Head, read_definitions};
+pub use header::opens_section;
 pub use lines::line_feeds;
 pub use number::time_of;
 pub use pieces::{BodyReader, Front, read_front};
 pub use read::read_vcd;
 pub use reference::{bracketed, index_between};
 pub use scopes::Scopes;
+pub use shape::{are_bits, is_end};
 pub use stopped::Stopped;
-pub use token::whole_tokens;
+pub use token::{is_space, whole_tokens, word_end};
 pub use variables::Variables;

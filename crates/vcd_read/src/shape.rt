@@ -73,7 +73,7 @@ fn keyword_shape(word: &[u8]) -> Shape<'_>
 }
 
 /// Whether a token is `$end`.
-pub(crate) fn is_end(word: &[u8]) -> bool
+pub fn is_end(word: &[u8]) -> bool
     ensures { result ≡ is_end word.now }
 {
     word == b"$end".as_slice()
@@ -90,7 +90,7 @@ fn opens_dump_section(word: &[u8]) -> bool
 }
 
 /// Whether `digits` is one or more digits of a vector.
-fn are_bits(digits: &[u8]) -> bool
+pub fn are_bits(digits: &[u8]) -> bool
     ensures { result ≡ are_bits digits.now }
 {
     !digits.is_empty() && all_bits(digits)

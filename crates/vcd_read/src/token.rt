@@ -36,7 +36,7 @@ pub(crate) struct Reader<'a> {
 /// Whether `b` is white space. Nearly all bytes are above the space (32), so one test decides most of them, and many
 /// others are line feeds.
 #[tactic(auto, using(crate::proofs::TokenLemmas::is_space_above_32))]
-fn is_space(b: u8) -> bool
+pub fn is_space(b: u8) -> bool
     ensures { result ≡ is_space b }
 {
     if b > b' ' {
@@ -86,7 +86,7 @@ fn ends_word(text: &[u8], at: usize) -> bool
 
 /// The place of the first space from `at` on, or the end.
 #[inline(always)]
-fn word_end(text: &[u8], at: usize) -> usize
+pub fn word_end(text: &[u8], at: usize) -> usize
     requires { at ≤ length text.now }
     ensures low { at ≤ result }
     ensures high { result ≤ length text.now }
