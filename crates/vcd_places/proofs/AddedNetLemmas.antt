@@ -22,6 +22,7 @@ use Rattle.vcd_read.specs.Body.{fitting, skipped, context_after, context_after_a
 use Rattle.vcd_read.specs.Meaning.{NetChange, change_of, changes_from, instant_at, instants_of, last_at, times_from}
 use Rattle.vcd_read.specs.Meaning.{value_at, values_at}
 use Rattle.vcd_read.proofs.CodesLemmas.{net_of-push, net_of-within, size_of-before}
+use Rattle.vcd_read.proofs.ContextLemmas.{bind-ok}
 use Rattle.vcd_places.proofs.SkippedLemmas.{instants_in}
 
 -- ---- lists
@@ -119,12 +120,6 @@ module _ (nets : List Net) (code : List ℕ) (size : ℕ) (none : net_of nets co
   context_after-all s next (dump_section_open line) e = e
   context_after-all s next (dump_section_end line) e = e
   context_after-all s next (wrong line kind) e = absurd cc
-
-  -- if `r >>= f` is without a fault, so is `r`, and `f` of its value
-  bind-ok : (r : Result BodyContext VcdFault) (f : BodyContext → Result BodyContext VcdFault)
-      (end : BodyContext) → (r >>= f) ≡ Ok end → (next : BodyContext) × (r ≡ Ok next) × (f next ≡ Ok end)
-  bind-ok (Ok next) f end e = (next, refl, e)
-  bind-ok (Err fault) f end e = absurd cc
 
   -- items that are read without a fault by `nets` give the same by `all`
   pub context_after_all-all : (items : List BodyItem) (s end : BodyContext) → context_after_all nets s items ≡ Ok end

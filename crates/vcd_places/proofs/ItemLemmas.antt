@@ -325,7 +325,7 @@ number-by_tests true false n time e = absurd cc
 number-by_tests false b n time e = absurd cc
 
 -- a time below 2^64 is the number of its digits
-pub number-if_time : (digits : List ℕ) (time : ℕ) → if_time (time_of digits) ≡ Some time → number digits ≡ time
+number-if_time : (digits : List ℕ) (time : ℕ) → if_time (time_of digits) ≡ Some time → number digits ≡ time
 number-if_time digits time e = number-by_tests (is_number digits) (nat_lt (number digits) (2 ^ 64)) (number digits) time
     e
 

@@ -1,88 +1,60 @@
 -- The fold over the items of a body gives the instants of the grammar, and their times ascend.
-use Rattle.std.proofs.Common.{◌≡◌, ℕ, zero, suc, ◌+◌, ◌<◌, ◌≤◌, Bool, true, false, ◌&&◌, cond, eqb, ltb, List, [], ◌∷◌}
-use Rattle.std.proofs.Common.{◌++◌, length, map, get_or, replicate, Option, Some, None, option_map, Result, Ok, Err}
+use Rattle.std.proofs.Common.{◌≡◌, ℕ, zero, suc, ◌+◌, ◌<◌, ◌≤◌, Bool, true, false, ◌&&◌, cond, eqb, List, [], ◌∷◌}
+use Rattle.std.proofs.Common.{◌++◌, length, map, get_or, replicate, Option, Some, None, option_map, Result, Ok}
 use Rattle.std.proofs.Common.{refl, sym, ap, ◌∙◌, subst, arith, append_assoc, inl, inr}
 use Rattle.std.specs.Prelude.{slice_set, filter_map, nat_eq}
 use Rattle.std.specs.List.{dedup, range_with_len}
 use Rattle.std.specs.List.Sorted.{IsStrictlyIncreasing}
-use Rattle.std.proofs.lemmas.Bool.{cases_Bool, eqb-true, eqb-false, eq-eqb, ltb-false, cond-true, cond-false}
+use Rattle.std.proofs.lemmas.Bool.{cases_Bool, eqb-true, eqb-false, eq-eqb, cond-true, cond-false}
 use Rattle.std.proofs.lemmas.Bool.Decides.{nat_tests}
 use Rattle.std.proofs.lemmas.List.{length-set, length-replicate, get_or-set_same, get_or-set_other, get_or-replicate}
 use Rattle.vcd_read.specs.declared.dump.Bit.{Bit}
 use Rattle.vcd_read.specs.declared.dump.Value.{Value}
 use Rattle.vcd_read.specs.declared.dump.Instant.{Instant}
-use Rattle.vcd_read.specs.declared.fault.FaultKind.{FaultKind}
 use Rattle.vcd_read.specs.declared.fault.VcdFault.{VcdFault}
 use Rattle.vcd_read.specs.Contents.{TimesAscend}
-use Rattle.vcd_read.specs.Numbers.{number, time_of}
-use Rattle.vcd_read.specs.Header.{◌>>=◌, at_line, Net, net_of}
+use Rattle.vcd_read.specs.Numbers.{number}
+use Rattle.vcd_read.specs.Header.{Net, net_of}
 use Rattle.vcd_read.specs.Body.{BodyItem, time_item, change, skipped, dump_section_open, dump_section_end, wrong}
 use Rattle.vcd_read.specs.Body.{BodyContext}
-use Rattle.vcd_read.specs.Body.{context_after, time_after, fitting, opened_at, closed}
+use Rattle.vcd_read.specs.Body.{context_after, fitting, opened_at, closed}
 use Rattle.vcd_read.specs.Meaning.{NetChange, change_of, changes_from, times_from, last_at, value_of, value_at}
 use Rattle.vcd_read.specs.Meaning.{instant_at, instants_of}
 use Rattle.vcd_read.specs.DumpProgress.{DumpProgress, values_from, advanced, ended, progress_after, DumpState, step}
 use Rattle.vcd_read.specs.DumpProgress.{steps}
+use Rattle.vcd_read.proofs.ContextLemmas.{bind-ok, context_after-time, now-unchanged}
 
 -- ---- the fold without its faults
-
--- if a result of two steps is no fault, neither step is one
-bind-ok : {A B E : Type 0} (r : Result A E) (f : A → Result B E) (y : B) → (r >>= f) ≡ Ok y → (x : A) × (r ≡ Ok x)
-    × (f x ≡ Ok y)
-bind-ok (Ok x) f y h = (x, refl, h)
-bind-ok (Err e) f y h = absurd cc
-
--- a result with a line that is no fault is none without the line
-at_line-ok : {A : Type 0} (line : ℕ) (r : Result A FaultKind) (x : A) → at_line line r ≡ Ok x → r ≡ Ok x
-at_line-ok line (Ok a) x h = cc
-at_line-ok line (Err kind) x h = absurd cc
-
--- a value that passes two tests is as it was
-ok-after_two_tests : {A E : Type 0} (p q : Bool) (x y : A) (e f : E) → cond p (cond q (Ok x) (Err e)) (Err f) ≡ Ok y → x
-    ≡ y
-ok-after_two_tests true true x y e f h = cc
-ok-after_two_tests true false x y e f h = absurd cc
-ok-after_two_tests false q x y e f h = absurd cc
-
--- a value that isn't refused is as it was, and `p` doesn't hold
-ok-after_test : {A E : Type 0} (p : Bool) (x y : A) (e : E) → cond p (Err e) (Ok x) ≡ Ok y → (p ≡ false) × (x ≡ y)
-ok-after_test true x y e h = absurd cc
-ok-after_test false x y e h = (refl, cc)
 
 -- the time after an item
 abbrev now_after : ℕ → BodyItem → ℕ
 now_after now (time_item line digits) = number digits
 now_after now item = now
 
--- an item that keeps the current time leaves it as it was
-now-unchanged : {A : Type 0} (r : Result A FaultKind) (line : ℕ) (s next : BodyContext) (f : A → BodyContext)
-    → ((x : A) → (f x).now ≡ s.now) → at_line line (r >>= λ x. Ok (f x)) ≡ Ok next → (next.now ≡ s.now)
-    × (s.now ≤ s.now)
-now-unchanged r line s next f same h =
-    let a = bind-ok r _ next (at_line-ok line _ next h) in
-    let e : f a.0 ≡ next = cc in
-    (sym (ap (λ (s : BodyContext). s.now) e) ∙ same a.0, omega arith)
-
 -- the current time after an item without a fault is that of a time item, or else as before, and isn't earlier
 now-now_after : (nets : List Net) (s next : BodyContext) (item : BodyItem) → context_after nets s item ≡ Ok next
     → (next.now ≡ now_after s.now item) × (s.now ≤ now_after s.now item)
 now-now_after nets s next (time_item line digits) h =
-    let a = bind-ok (time_of digits) _ next (at_line-ok line _ next h) in
-    let b = bind-ok (time_after s.now a.0) _ next a.2 in
-    let n : number digits ≡ a.0 = ok-after_two_tests _ _ _ _ _ _ a.1 in
-    let t = ok-after_test (ltb a.0 s.now) a.0 b.0 _ b.1 in
-    let e : record s { now = b.0 } ≡ next = cc in
-    (sym (ap (λ (s : BodyContext). s.now) e) ∙ sym (n ∙ t.1), omega (arith, ltb-false a.0 s.now t.0, n))
-now-now_after nets s next (change line digits code) h = now-unchanged (fitting nets (length digits) (net_of nets code))
-    line s next
-    (λ net. s) (λ net. refl) h
-now-now_after nets s next (skipped line code) h = now-unchanged (fitting nets 0 (net_of nets code)) line s next
-    (λ net. s)
-    (λ net. refl) h
-now-now_after nets s next (dump_section_open line) h = now-unchanged (opened_at line s.dump_section) line s next
-    (λ dump_section. record s { dump_section = dump_section }) (λ dump_section. refl) h
-now-now_after nets s next (dump_section_end line) h = now-unchanged (closed s.dump_section) line s next
-    (λ dump_section. record s { dump_section = dump_section }) (λ dump_section. refl) h
+    let t = context_after-time nets s next line digits h in
+    (t.1, t.2)
+now-now_after nets s next (change line digits code) h = (
+  now-unchanged (fitting nets (length digits) (net_of nets code)) line s next (λ net. s) (λ net. refl) h,
+  omega arith,
+)
+now-now_after nets s next (skipped line code) h = (
+  now-unchanged (fitting nets 0 (net_of nets code)) line s next (λ net. s) (λ net. refl) h,
+  omega arith,
+)
+now-now_after nets s next (dump_section_open line) h = (
+  now-unchanged (opened_at line s.dump_section) line s next
+      (λ dump_section. record s { dump_section = dump_section }) (λ dump_section. refl) h,
+  omega arith,
+)
+now-now_after nets s next (dump_section_end line) h = (
+  now-unchanged (closed s.dump_section) line s next
+      (λ dump_section. record s { dump_section = dump_section }) (λ dump_section. refl) h,
+  omega arith,
+)
 now-now_after nets s next (wrong line kind) h = absurd cc
 
 -- a step without a fault has the context and the progress after its item

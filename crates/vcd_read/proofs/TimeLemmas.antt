@@ -18,7 +18,7 @@ module _ {A : Type 0} (with_change : A → ℕ → List Bit → A) (with_instant
   time_in p = p.time
 
   -- after a time item its time is the current one, whether it ended an instant (`test`) or not
-  time-advanced : (test : Bool) (p : BodyFold A) (t : ℕ) → time_in (cond test
+  pub time-advanced : (test : Bool) (p : BodyFold A) (t : ℕ) → time_in (cond test
       (record { accumulator = with_instant p.accumulator p.time; time = t; has_instant = true })
       (record p { time = t; has_instant = true }))
       ≡ t

@@ -1,8 +1,7 @@
 -- The steps of a dump that are still to come are at the last time that was read or later, up to the time at its end.
 use Rattle.std.proofs.Common.{◌≡◌, ℕ, ◌<◌, ◌≤◌, Bool, true, false, cond, ◌&&◌, List, [], ◌∷◌, ◌++◌, length}
 use Rattle.std.proofs.Common.{Some, Result, Ok, Err, refl, sym, ap, subst, ◌∙◌, arith}
-use Rattle.std.specs.Prelude.{All, not, nat_lt, ◌==◌}
-use Rattle.std.proofs.lemmas.Bool.{ltb-false}
+use Rattle.std.specs.Prelude.{All, not, ◌==◌}
 use Rattle.std.proofs.lemmas.Bool.Decides.{nat_tests}
 use Rattle.std.proofs.lemmas.List.{append_cancel_left}
 use Rattle.std.proofs.lemmas.List.Elements.{All-append, All-cons, All-nil, All-weaker}
@@ -12,13 +11,14 @@ use Rattle.vme_trace.specs.declared.step.Step.{Step}
 use Rattle.vcd_read.specs.Bodies.{until_fault}
 use Rattle.vcd_read.specs.Body.{BodyItem, BodyContext, at_the_end, body_from, dump_section_end, dump_section_open}
 use Rattle.vcd_read.specs.Body.{change}
-use Rattle.vcd_read.specs.Body.{closed, fitting, opened_at, skipped, context_after, time_after, time_item, wrong}
-use Rattle.vcd_read.specs.Header.{◌>>=◌, Net, at_line, net_of}
-use Rattle.vcd_read.specs.Numbers.{number, time_of}
+use Rattle.vcd_read.specs.Body.{closed, fitting, opened_at, skipped, context_after, time_item, wrong}
+use Rattle.vcd_read.specs.Header.{◌>>=◌, Net, net_of}
+use Rattle.vcd_read.specs.Numbers.{number}
 use Rattle.vcd_read.specs.BodyFold.{State, BodyFold, at_end, ended, progress_after, reached_before, state_at, steps}
 use Rattle.vcd_read.specs.Tokens.{tokens_from}
-use Rattle.vcd_read.specs.declared.fault.FaultKind.{FaultKind}
 use Rattle.vcd_read.specs.declared.fault.VcdFault.{VcdFault}
+use Rattle.vcd_read.proofs.ContextLemmas.{context_after-time, now-unchanged}
+use Rattle.vcd_read.proofs.TimeLemmas.{time-advanced}
 use Rattle.vme_bind.specs.BuilderState.{BuilderState, builder_change, builder_instant}
 use Rattle.vme_bind.specs.Recording.{step_between}
 use Rattle.vme_bind.specs.SpeculativeReading.{with_recording}
@@ -27,48 +27,6 @@ use Rattle.vme_step_reader.specs.StepReading.{StepReading, whole_reading}
 use Rattle.vme_step_reader.proofs.PieceSteps.{IsIndependentOfRecorded, time-whole_reading}
 
 -- ---- the time after an item
-
--- if a result of two steps is no fault, neither step is one
-bind-ok : {A B E : Type 0} (r : Result A E) (f : A → Result B E) (y : B) → (r >>= f) ≡ Ok y → (x : A) × (r ≡ Ok x)
-    × (f x ≡ Ok y)
-bind-ok (Ok x) f y h = (x, refl, h)
-bind-ok (Err e) f y h = absurd cc
-
--- a result with a line that is no fault is none without the line
-at_line-ok : {A : Type 0} (line : ℕ) (r : Result A FaultKind) (x : A) → at_line line r ≡ Ok x → r ≡ Ok x
-at_line-ok line (Ok a) x h = cc
-at_line-ok line (Err kind) x h = absurd cc
-
--- a result that passes both tests is `x`
-ok-after_two_tests : {A E : Type 0} (p q : Bool) (x y : A) (e f : E) → cond p (cond q (Ok x) (Err e)) (Err f) ≡ Ok y → x
-    ≡ y
-ok-after_two_tests true true x y e f h = cc
-ok-after_two_tests true false x y e f h = absurd cc
-ok-after_two_tests false q x y e f h = absurd cc
-
--- a value that isn't refused is as it was, and `p` doesn't hold
-ok-after_test : {A E : Type 0} (p : Bool) (x y : A) (e : E) → cond p (Err e) (Ok x) ≡ Ok y → (p ≡ false) × (x ≡ y)
-ok-after_test true x y e h = absurd cc
-ok-after_test false x y e h = (refl, cc)
-
--- an item that keeps the current time leaves it as it was
-now-unchanged : {A : Type 0} (r : Result A FaultKind) (line : ℕ) (s next : BodyContext) (f : A → BodyContext)
-    → ((x : A) → (f x).now ≡ s.now) → at_line line (r >>= λ x. Ok (f x)) ≡ Ok next → next.now ≡ s.now
-now-unchanged r line s next f same h =
-    let a = bind-ok r _ next (at_line-ok line _ next h) in
-    let e : f a.0 ≡ next = cc in
-    sym (ap (λ (s : BodyContext). s.now) e) ∙ same a.0
-
--- after a time item without a fault, its time is the current one, and isn't earlier than that before
-context_after-time : (nets : List Net) (s next : BodyContext) (line : ℕ) (digits : List ℕ)
-    → context_after nets s (time_item line digits) ≡ Ok next → (next.now ≡ number digits) × (s.now ≤ number digits)
-context_after-time nets s next line digits h =
-    let a = bind-ok (time_of digits) _ next (at_line-ok line _ next h) in
-    let b = bind-ok (time_after s.now a.0) _ next a.2 in
-    let n : number digits ≡ a.0 = ok-after_two_tests _ _ _ _ _ _ a.1 in
-    let t = ok-after_test (nat_lt a.0 s.now) a.0 b.0 _ b.1 in
-    let e : record s { now = b.0 } ≡ next = cc in
-    (sym (ap (λ (s : BodyContext). s.now) e) ∙ sym (n ∙ t.1), omega (arith, ltb-false a.0 s.now t.0, n))
 
 -- a time that ends an instant is later than it
 lt-end_of_instant : (has_instant : Bool) (t now : ℕ) → now ≤ t → (has_instant && not (t == now)) ≡ true → now < t
@@ -136,13 +94,6 @@ module _ (from : ℕ) where
     before = AreBefore-later p.time t le p.accumulator.recorded.steps h.before;
   }
 
-  -- after a time item its time is the current one, whether it ended an instant (`test`) or not
-  time-advanced : (test : Bool) (p : BodyFold BuilderState) (t : ℕ)
-      → (cond test (record { accumulator = builder_instant p.accumulator p.time; time = t; has_instant = true })
-      (record p { time = t; has_instant = true })).time ≡ t
-  time-advanced true p t = refl
-  time-advanced false p t = refl
-
   -- the context and the progress have one current time, and the steps are made so
   record IsAt (s : State BuilderState) : Type 0 where
     at : s.context.now ≡ s.progress.time
@@ -175,12 +126,12 @@ module _ (from : ℕ) where
     IsAt-item : (s : State BuilderState) (item : BodyItem) (next : BodyContext) → IsAt s
         → context_after nets s.context item ≡ Ok next → IsAt (state_after s item next)
     IsAt-item s (time_item line digits) next h ok =
-        let (now, le) = context_after-time nets s.context next line digits ok in
+        let (read, now, le) = context_after-time nets s.context next line digits ok in
         let p = s.progress in
         let test : Bool = p.has_instant && not (number digits == p.time) in
         let late : p.time ≤ number digits = omega (arith, le, h.at) in
         record {
-          at = now ∙ sym (time-advanced test p (number digits));
+          at = now ∙ sym (time-advanced builder_change builder_instant nets test p (number digits));
           made = IsMade-advanced test p (number digits) h.made late
               (lt-end_of_instant p.has_instant (number digits) p.time late);
         }
