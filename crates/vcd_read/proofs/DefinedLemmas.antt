@@ -1,6 +1,6 @@
--- What a visitor makes of the variables of a header is a fold over all of them.
+-- What a visitor makes of the variables of a header is a fold over all of them, and the header's fault is the same.
 use Rattle.std.proofs.Common.{◌≡◌, ℕ, Bool, true, false, cond, List, [], ◌∷◌, Result, Ok, Err, codes, refl, sym, ap}
-use Rattle.std.proofs.Common.{◌∙◌}
+use Rattle.std.proofs.Common.{◌∙◌, subst}
 use Rattle.std.specs.Prelude.{bytes_eq}
 use Rattle.std.specs.List.{fold}
 use Rattle.std.proofs.lemmas.List.Sums.{fold-append}
@@ -12,9 +12,10 @@ use Rattle.vcd_read.specs.Header.{◌>>=◌, at_line, HeaderItem, whole, unfinis
 use Rattle.vcd_read.specs.Header.{VarWords, var_words, variable_in, reference_of, Declared, declare_all}
 use Rattle.vcd_read.specs.Header.{declare_section, declare_var, open_scope, close_scope, nothing_declared, appended}
 use Rattle.vcd_read.specs.Header.{header_from, between}
-use Rattle.vcd_read.specs.Sections.{Defined, headed, header_of}
-use Rattle.vcd_read.specs.Meaning.{body_of}
-use Rattle.vcd_read.proofs.DumpLemmas.{whole_header}
+use Rattle.vcd_read.specs.Sections.{Defined, Headed, defined, headed, header_of}
+use Rattle.vcd_read.specs.Meaning.{ReadFails, body_of, dump_of}
+use Rattle.vcd_read.proofs.DumpLemmas.{contents_of_header, dump_of-header, whole_header}
+use Rattle.vcd_read.proofs.ReadLemmas.{ReadFails-first, ReadFailsAs-before_total}
 
 module _ {V : Type 0} (with_variable : V → Variable → V) where
   -- what a visitor makes of `variables`, one after the other
@@ -134,3 +135,51 @@ module _ {V : Type 0} (with_variable : V → Variable → V) where
       ap (λ (r : Result (Declared V) VcdFault). r >>= λ declared. body_of text header.body >>= λ body. Ok
       (headed declared body)) (declare_all-taken_in v header.items (nothing_declared []))
       ∙ headed-taken_head v (declare_all appended (nothing_declared []) header.items) (body_of text header.body)
+
+  -- a fault of a header that is read with a visitor is the fault of the header
+  pub ReadFails-visited : (fault : VcdFault) (text : List ℕ) (v : V)
+      → ReadFails fault (header_of with_variable text (nothing_declared v) (tokens text))
+      → ReadFails fault (whole_header text)
+  ReadFails-visited fault text v fails =
+      ReadFailsAs-before_total fault.line fault.kind (whole_header text) (taken_head v)
+      (subst (λ (r : Result (Defined V) VcdFault). ReadFails fault r) (header_of-taken_head text v) fails)
+
+  -- a fault of a header that is read with a visitor is the fault of the dump
+  pub dump_of-visited_fails : (fault : VcdFault) (text : List ℕ) (v : V)
+      → ReadFails fault (header_of with_variable text (nothing_declared v) (tokens text))
+      → ReadFails fault (dump_of text)
+  dump_of-visited_fails fault text v fails =
+      ReadFails-first fault (whole_header text) contents_of_header _ (dump_of-header text)
+      (ReadFails-visited fault text v fails)
+
+  -- the header of `text` is `h`, and `last` is `first` after its variables
+  abbrev pub HasHeader : List ℕ → Headed → V → V → Type 0
+  HasHeader text h first last = (variables : List Variable) × (whole_header text ≡ Ok (defined h variables))
+      × (last ≡ fold with_variable first variables)
+
+  -- definitions as a result without a fault
+  abbrev ok_defined : Defined V → Result (Defined V) VcdFault
+  ok_defined d = Ok d
+
+  -- the values of equal results without a fault are equal
+  ok_same : (x y : Defined V) → ok_defined x ≡ ok_defined y → x ≡ y
+  ok_same x y e = cc
+
+  -- where a visitor makes `last` of the header `r` of `text`, `HasHeader` holds
+  HasHeader-by_result : (text : List ℕ) (h : Headed) (first last : V) (r : Result (Defined (List Variable)) VcdFault)
+      → whole_header text ≡ r → (r >>= λ d. Ok (taken_head first d)) ≡ Ok (defined h last)
+      → HasHeader text h first last
+  HasHeader-by_result text h first last (Ok d) e is =
+      let same = ok_same (taken_head first d) (defined h last) is in (
+        d.variables,
+        e ∙ ap (λ (x : Defined V). Ok (defined x.head d.variables)) same,
+        sym (ap (λ (x : Defined V). x.variables) same),
+      )
+  HasHeader-by_result text h first last (Err fault) e is = absurd (cc is)
+
+  -- where a visitor reads the header of `text` without a fault, `HasHeader` holds
+  pub HasHeader-visited : (text : List ℕ) (h : Headed) (first last : V)
+      → header_of with_variable text (nothing_declared first) (tokens text) ≡ Ok (defined h last)
+      → HasHeader text h first last
+  HasHeader-visited text h first last e = HasHeader-by_result text h first last (whole_header text) refl
+      (sym (header_of-taken_head text first) ∙ e)

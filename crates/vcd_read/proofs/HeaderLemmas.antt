@@ -7,9 +7,8 @@ use Rattle.std.specs.Prelude.{bytes_eq}
 use Rattle.std.proofs.lemmas.List.{append-nil}
 use Rattle.std.proofs.lemmas.Slice.Eq.{bytes_eq-Decides}
 use Rattle.vcd_read.specs.declared.dump.Variable.{Variable}
-use Rattle.vcd_read.specs.declared.fault.FaultKind.{FaultKind}
 use Rattle.vcd_read.specs.declared.fault.FaultKind.TheVariants.{BadToken, UnfinishedSection, ScopeUnderflow}
-use Rattle.vcd_read.specs.declared.fault.FaultKind.TheVariants.{NoEndDefinitions, Memory}
+use Rattle.vcd_read.specs.declared.fault.FaultKind.TheVariants.{NoEndDefinitions}
 use Rattle.vcd_read.specs.declared.fault.VcdFault.{VcdFault}
 use Rattle.vcd_read.specs.declared.header.Opening.{Opening}
 use Rattle.vcd_read.specs.declared.header.Opening.TheVariants.{Var, Scope, Upscope, EndDefinitions, Skipped, Nothing}
@@ -20,7 +19,8 @@ use Rattle.vcd_read.specs.Header.{stray, with_word, Header, with_item, between, 
 use Rattle.vcd_read.specs.Header.{declare_all, declare_section, declare_var, open_scope, close_scope}
 use Rattle.vcd_read.specs.Sections.{Ended, after_word, ended_in, section_from, after_section, opening_of, Defined}
 use Rattle.vcd_read.specs.Sections.{headed, header_of, rest_of_header}
-use Rattle.vcd_read.specs.Meaning.{ReadFails, ReadFailsAs, body_of}
+use Rattle.vcd_read.specs.Meaning.{ReadFails, body_of}
+use Rattle.vcd_read.proofs.ReadLemmas.{ReadFails-first}
 
 -- ---- what a token opens
 
@@ -313,17 +313,6 @@ module _ {V : Type 0} (with_variable : V → Variable → V) where
       ≡ (read >>= g) → read ≡ Ok x → all ≡ g x
   bind-of_ok {A} {B} all read g x e is = e ∙ ap (λ (r : Result A VcdFault). r >>= g) is
 
-  -- if the first step fails with this kind of fault at this line, so does all
-  ReadFailsAs-bind : {A B : Type 0} (line : ℕ) (kind : FaultKind) (all : Result B VcdFault) (read : Result A VcdFault)
-      (g : A → Result B VcdFault) → all ≡ (read >>= g) → ReadFailsAs line kind read → ReadFailsAs line kind all
-  ReadFailsAs-bind line Memory all read g e h = h
-  ReadFailsAs-bind {A} line kind all read g e h = e ∙ ap (λ (r : Result A VcdFault). r >>= g) h
-
-  -- if the first step fails with this fault, so does all
-  ReadFails-bind : {A B : Type 0} (fault : VcdFault) (all : Result B VcdFault) (read : Result A VcdFault)
-      (g : A → Result B VcdFault) → all ≡ (read >>= g) → ReadFails fault read → ReadFails fault all
-  ReadFails-bind fault all read g e h = ReadFailsAs-bind fault.line fault.kind all read g e h
-
   -- a section of each kind, opened by `t`: if reading or declaring it fails (`_stops`, `_refused`), the header has that
   -- fault; otherwise (`_continues`) the header is what the tokens after the section give, or they are its body
   -- (`end_continues`)
@@ -352,18 +341,16 @@ module _ {V : Type 0} (with_variable : V → Variable → V) where
     -- a section `$var` that can't be read is a fault of the header
     pub var_stops : (fault : VcdFault) → Var ≡ opening_of t.bytes → ReadFails fault (section_from t.line ts)
         → ReadFails fault (header_of with_variable text d (t ∷ ts))
-    var_stops fault e h = ReadFails-bind fault (header_of with_variable text d (t ∷ ts)) (section_from t.line ts)
-        after_var
-        (header_of-var text d t ts e) h
+    var_stops fault e h =
+        ReadFails-first fault (section_from t.line ts) after_var _ (header_of-var text d t ts e) h
 
     -- a section `$var` whose words declare no variable is a fault of the header
     pub var_refused : (fault : VcdFault) (words : List (List ℕ)) (rest : List Token) → Var ≡ opening_of t.bytes
         → section_from t.line ts ≡ Ok (record { words = words; rest = rest }) → ReadFails fault
         (at_line t.line (declare_var with_variable d words)) → ReadFails fault (header_of with_variable text d (t ∷ ts))
     var_refused fault words rest e is h =
-        ReadFails-bind fault (header_of with_variable text d (t ∷ ts))
-        (at_line t.line (declare_var with_variable d words))
-        (λ next. header_of with_variable text next rest)
+        ReadFails-first fault (at_line t.line (declare_var with_variable d words))
+        (λ next. header_of with_variable text next rest) _
         (bind-of_ok (header_of with_variable text d (t ∷ ts)) (section_from t.line ts) after_var
         (record { words = words; rest = rest }) (header_of-var text d t ts e) is) h
 
@@ -381,9 +368,8 @@ module _ {V : Type 0} (with_variable : V → Variable → V) where
     -- a section `$scope` that can't be read is a fault of the header
     pub scope_stops : (fault : VcdFault) → Scope ≡ opening_of t.bytes → ReadFails fault (section_from t.line ts)
         → ReadFails fault (header_of with_variable text d (t ∷ ts))
-    scope_stops fault e h = ReadFails-bind fault (header_of with_variable text d (t ∷ ts)) (section_from t.line ts)
-        after_scope
-        (header_of-scope text d t ts e) h
+    scope_stops fault e h =
+        ReadFails-first fault (section_from t.line ts) after_scope _ (header_of-scope text d t ts e) h
 
     -- after a section `$scope` the header goes on in this scope
     pub scope_continues : (words : List (List ℕ)) (rest : List Token) → Scope ≡ opening_of t.bytes
@@ -396,8 +382,8 @@ module _ {V : Type 0} (with_variable : V → Variable → V) where
     -- a section `$upscope` that can't be read is a fault of the header
     pub upscope_stops : (fault : VcdFault) → Upscope ≡ opening_of t.bytes → ReadFails fault (after_section t.line ts)
         → ReadFails fault (header_of with_variable text d (t ∷ ts))
-    upscope_stops fault e h = ReadFails-bind fault (header_of with_variable text d (t ∷ ts)) (after_section t.line ts)
-        after_upscope (header_of-upscope text d t ts e) h
+    upscope_stops fault e h =
+        ReadFails-first fault (after_section t.line ts) after_upscope _ (header_of-upscope text d t ts e) h
 
     -- a section `$upscope` where no scope is open is a fault of the header
     pub upscope_refused : (rest : List Token) → Upscope ≡ opening_of t.bytes → after_section t.line ts ≡ Ok rest
@@ -422,9 +408,8 @@ module _ {V : Type 0} (with_variable : V → Variable → V) where
     -- a section `$enddefinitions` that can't be read is a fault of the header
     pub end_stops : (fault : VcdFault) → EndDefinitions ≡ opening_of t.bytes → ReadFails fault
         (after_section t.line ts) → ReadFails fault (header_of with_variable text d (t ∷ ts))
-    end_stops fault e h = ReadFails-bind fault (header_of with_variable text d (t ∷ ts)) (after_section t.line ts)
-        after_end
-        (header_of-enddefinitions text d t ts e) h
+    end_stops fault e h =
+        ReadFails-first fault (after_section t.line ts) after_end _ (header_of-enddefinitions text d t ts e) h
 
     -- after a section `$enddefinitions` the tokens are the body
     pub end_continues : (rest : List Token) → EndDefinitions ≡ opening_of t.bytes → after_section t.line ts ≡ Ok rest
@@ -436,8 +421,8 @@ module _ {V : Type 0} (with_variable : V → Variable → V) where
     -- a section of another kind that can't be read is a fault of the header
     pub skipped_stops : (fault : VcdFault) → Skipped ≡ opening_of t.bytes → ReadFails fault (after_section t.line ts)
         → ReadFails fault (header_of with_variable text d (t ∷ ts))
-    skipped_stops fault e h = ReadFails-bind fault (header_of with_variable text d (t ∷ ts)) (after_section t.line ts)
-        after_skipped (header_of-skipped text d t ts e) h
+    skipped_stops fault e h =
+        ReadFails-first fault (after_section t.line ts) after_skipped _ (header_of-skipped text d t ts e) h
 
     -- after a section of another kind the header goes on as before
     pub skipped_continues : (rest : List Token) → Skipped ≡ opening_of t.bytes → after_section t.line ts ≡ Ok rest

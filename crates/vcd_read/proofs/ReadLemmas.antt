@@ -72,7 +72,8 @@ instants_from-steps nets tokens s e = instants-by_steps nets (body_from ready to
     ∙ ap (λ (s : DumpState). steps nets s (body_from ready tokens) >>= at_end) (sym e)
 
 -- if the first part of a reading fails with this kind of fault at this line, so does the whole
-ReadFailsAs-then : {X Y : Type 0} (line : ℕ) (kind : FaultKind) (r : Result X VcdFault) (next : X → Result Y VcdFault)
+pub ReadFailsAs-then : {X Y : Type 0} (line : ℕ) (kind : FaultKind) (r : Result X VcdFault)
+    (next : X → Result Y VcdFault)
     → ReadFailsAs line kind r → ReadFailsAs line kind (r >>= next)
 ReadFailsAs-then line Memory r next h = h
 ReadFailsAs-then {X = X} {Y = Y} line kind r next h = ap (λ (r : Result X VcdFault). r >>= next) h
@@ -81,6 +82,14 @@ ReadFailsAs-then {X = X} {Y = Y} line kind r next h = ap (λ (r : Result X VcdFa
 pub ReadFails-first : {X Y : Type 0} (fault : VcdFault) (r : Result X VcdFault) (next : X → Result Y VcdFault)
     (whole : Result Y VcdFault) → whole ≡ (r >>= next) → ReadFails fault r → ReadFails fault whole
 ReadFails-first fault r next whole e h = rw e (ReadFailsAs-then fault.line fault.kind r next h)
+
+-- if `r` followed by a total function `f` fails, `r` fails with the same fault
+pub ReadFailsAs-before_total : {X Y : Type 0} (line : ℕ) (kind : FaultKind) (r : Result X VcdFault) (f : X → Y)
+    → ReadFailsAs line kind (r >>= λ x. Ok (f x)) → ReadFailsAs line kind r
+ReadFailsAs-before_total line Memory r f h = h
+ReadFailsAs-before_total line kind (Ok x) f h = absurd (cc h)
+ReadFailsAs-before_total line kind (Err fault) f h = let same : fault ≡ record { line = line; kind = kind } =
+    cc h in ap Err same
 
 -- if reading fails with `fault`, `ReadGives` holds of the error `fault`, as `?` returns it
 pub ReadGives-error : {X Y : Type 0} (view : X → Y) (r : Result X VcdFault) (fault : VcdFault)

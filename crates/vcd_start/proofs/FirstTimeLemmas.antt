@@ -18,11 +18,12 @@ use Rattle.vcd_read.specs.Reading.{line_behind}
 use Rattle.vcd_read.specs.Sections.{Defined, Headed, defined, header_of}
 use Rattle.vcd_read.specs.BodyFold.{State, BodyFold, at_end, fold_body}
 use Rattle.vcd_read.specs.Tokens.{Token, tokens, tokens_from}
-use Rattle.vcd_read.proofs.DefinedLemmas.{header_of-taken_head, taken_head}
+use Rattle.vcd_read.proofs.DefinedLemmas.{HasHeader-visited, dump_of-visited_fails, header_of-taken_head, taken_head}
 use Rattle.vcd_read.proofs.DumpLemmas.{contents_of_header, dump_of-whole_header, dump_of-header, whole_header}
 use Rattle.vcd_read.proofs.DumpLemmas.{with_variables}
 use Rattle.vcd_read.proofs.CurrentValues.{CurrentValues}
 use Rattle.vcd_read.proofs.BodyFoldLemmas.{Ends, Follows, ReadFails-followed, Follows-fold_body}
+use Rattle.vcd_read.proofs.ReadLemmas.{ReadFailsAs-then}
 use Rattle.vcd_start.specs.FirstTimes.{first_time_of, first_time_of_dump}
 use Rattle.vcd_start.specs.FirstTimeReading.{LeadsToFirstTime, first_time_kept, first_time_or}
 
@@ -63,23 +64,12 @@ abbrev without_variables : Unit {0} → Variable → Unit {0}
 without_variables taken variable = taken
 
 module _ (text : List ℕ) (ts : List Token) (same : tokens text ≡ ts) where
-  -- the header without its variables is that with all of them, whose variables are left out
-  header_of-whole_header : header_of without_variables text (nothing_declared tt) ts
-      ≡ (whole_header text >>= λ (d : Defined (List Variable)). Ok (taken_head without_variables tt d))
-  header_of-whole_header =
-      ap (λ (l : List Token). header_of without_variables text (nothing_declared tt) l) (sym same)
-      ∙ header_of-taken_head without_variables text tt
+  -- the header of the tokens of the text is that of `ts`
+  header_of-tokens : header_of without_variables text (nothing_declared tt) (tokens text)
+      ≡ header_of without_variables text (nothing_declared tt) ts
+  header_of-tokens = ap (λ (l : List Token). header_of without_variables text (nothing_declared tt) l) same
 
   module _ (h : Headed) where
-    -- a header that is read without its variables can be read with them
-    whole_header-variables : (w : Result (Defined (List Variable)) VcdFault)
-        → (w >>= λ (d : Defined (List Variable)). Ok (taken_head without_variables tt d)) ≡ Ok (defined h tt)
-        → (variables : List Variable) × (w ≡ Ok (defined h variables))
-    whole_header-variables (Ok d) e =
-        let same_head : taken_head without_variables tt d ≡ defined h tt = cc in
-        (d.variables, ap (λ (x : Defined (Unit {0})). Ok (defined x.head d.variables)) same_head)
-    whole_header-variables (Err fault) e = absurd (cc)
-
     -- a dump whose instants are read has these instants
     instants-of_dump : (variables : List Variable) (dump : Contents) (r : Result (List Instant) VcdFault)
         → (r >>= with_variables variables) ≡ Ok dump → r ≡ Ok dump.instants
@@ -94,47 +84,31 @@ module _ (text : List ℕ) (ts : List Token) (same : tokens text ≡ ts) where
         → dump_of text ≡ Ok dump
         → fold_body first_time_kept first_time_or h.nets None h.body ≡ Ok (first_time_of_dump dump)
     fold_body-first_time_of_dump is dump whole =
-        let (variables, found) = whole_header-variables (whole_header text) (sym header_of-whole_header ∙ is) in
+        let (variables, found, taken) = HasHeader-visited without_variables text h tt tt (header_of-tokens ∙ is) in
         let by_header = dump_of-whole_header text (defined h variables) found in
         first_time-followed (instants_from h.nets h.body) (fold_body first_time_kept first_time_or h.nets None h.body)
         dump.instants
         (instants-of_dump variables dump (instants_from h.nets h.body) (sym by_header ∙ whole))
         (Follows-first_time h.nets h.body)
 
-    -- if the first part of a reading fails with this kind of fault at this line, so does the whole
-    ReadFailsAs-then : {X Y : Type 0} (line : ℕ) (kind : FaultKind) (r : Result X VcdFault) (f : X → Result Y VcdFault)
-        → ReadFailsAs line kind r → ReadFailsAs line kind (r >>= f)
-    ReadFailsAs-then line Memory r f fails = fails
-    ReadFailsAs-then line kind r f fails = ap (λ w. w >>= f) fails
-
     -- a fault of the fold over the body is a fault of the dump
     pub ReadFails-body : header_of without_variables text (nothing_declared tt) ts ≡ Ok (defined h tt)
         → (fault : VcdFault)
         → ReadFails fault (fold_body first_time_kept first_time_or h.nets None h.body) → ReadFails fault (dump_of text)
     ReadFails-body is fault fails =
-        let (variables, found) = whole_header-variables (whole_header text) (sym header_of-whole_header ∙ is) in
+        let (variables, found, taken) = HasHeader-visited without_variables text h tt tt (header_of-tokens ∙ is) in
         subst (ReadFailsAs fault.line fault.kind) (sym (dump_of-whole_header text (defined h variables) found))
         (ReadFailsAs-then fault.line fault.kind (instants_from h.nets h.body) (with_variables variables)
         (ReadFails-followed (Ends HasFirst) (instants_from h.nets h.body)
         (fold_body first_time_kept first_time_or h.nets None h.body) fault (Follows-first_time h.nets h.body) fails))
-
-  -- a fault of the header without its variables is one of the contents
-  ReadFailsAs-header : (line : ℕ) (kind : FaultKind) (w : Result (Defined (List Variable)) VcdFault)
-      → ReadFailsAs line kind (w >>= λ (d : Defined (List Variable)). Ok (taken_head without_variables tt d))
-      → ReadFailsAs line kind (w >>= contents_of_header)
-  ReadFailsAs-header line Memory w fails = fails
-  ReadFailsAs-header line kind (Ok d) fails = absurd (cc)
-  ReadFailsAs-header line kind (Err read_result) fails =
-      let same_fault : read_result ≡ record { line = line; kind = kind } = cc in ap (λ (f : VcdFault). Err f) same_fault
 
   -- a fault of the header is a fault of the dump
   pub ReadFails-header : (fault : VcdFault) → ReadFails fault (header_of without_variables text (nothing_declared tt)
       ts)
       → ReadFails fault (dump_of text)
   ReadFails-header fault fails =
-      subst (ReadFailsAs fault.line fault.kind) (sym (dump_of-header text))
-      (ReadFailsAs-header fault.line fault.kind (whole_header text)
-      (subst (ReadFailsAs fault.line fault.kind) header_of-whole_header fails))
+      dump_of-visited_fails without_variables fault text tt
+      (subst (ReadFailsAs fault.line fault.kind) (sym header_of-tokens) fails)
 
   -- a header that fails without its variables makes no dump
   header-not_faulty : (fault : VcdFault) (dump : Contents) (w : Result (Defined (List Variable)) VcdFault)
@@ -148,7 +122,8 @@ module _ (text : List ℕ) (ts : List Token) (same : tokens text ≡ ts) where
       → (dump : Contents)
       → dump_of text ≡ Ok dump → ⊥
   dump_of-faulty_header fault fails dump whole =
-      header-not_faulty fault dump (whole_header text) (sym header_of-whole_header ∙ fails)
+      header-not_faulty fault dump (whole_header text)
+      (sym (header_of-taken_head without_variables text tt) ∙ header_of-tokens ∙ fails)
       (sym (dump_of-header text) ∙ whole)
 
 -- ---- the body
@@ -188,21 +163,14 @@ module _ (r : Reached (Option ℕ)) (head : Headed) (nets : r.nets ≡ head.nets
           ap (λ (w : Result (State (Option ℕ)) VcdFault). w >>= at_end first_time_or) (sym goes) ∙ rest_of-unread more
           ∙ fold_body-first_time_of_dump text (ts ++ more) same (going_on head more) is dump whole
 
-      -- a fault of the items is a fault at the end of the body
-      ReadFailsAs-at_end : (line : ℕ) (kind : FaultKind) (w : Result (State (Option ℕ)) VcdFault)
-          → ReadFailsAs line kind w
-          → ReadFailsAs line kind (w >>= at_end first_time_or)
-      ReadFailsAs-at_end line Memory w fails = fails
-      ReadFailsAs-at_end line kind w fails = ap (λ (x : Result (State (Option ℕ)) VcdFault). x >>= at_end first_time_or)
-          fails
-
       -- a fault in reading `head.body` and `more` from `r` on is a fault of the dump
       pub ReadFails-rest : (fault : VcdFault) → ReadFails fault (rest_of first_time_kept first_time_or r head.body more)
           → ReadFails fault (dump_of text)
       ReadFails-rest fault fails =
           ReadFails-body text (ts ++ more) same (going_on head more) is fault
           (subst (ReadFailsAs fault.line fault.kind) (rest_of-unread more)
-          (ReadFailsAs-at_end fault.line fault.kind (rest_of first_time_kept first_time_or r head.body more) fails))
+          (ReadFailsAs-then fault.line fault.kind (rest_of first_time_kept first_time_or r head.body more)
+          (at_end first_time_or) fails))
 
 -- ---- a fault
 

@@ -19,10 +19,10 @@ use Rattle.vcd_read.specs.Header.{◌>>=◌, nothing_declared}
 use Rattle.vcd_read.specs.Sections.{Headed, Defined, defined, header_of}
 use Rattle.vcd_read.specs.Meaning.{ReadFails, ReadFailsAs, dump_of, instants_from}
 use Rattle.vcd_read.specs.BodyFold.{fold_body}
-use Rattle.vcd_read.proofs.ReadLemmas.{ReadFails-first, TimesAscend-instants_from}
+use Rattle.vcd_read.proofs.ReadLemmas.{TimesAscend-instants_from}
 use Rattle.vcd_read.proofs.DumpLemmas.{contents_of_header, with_variables, whole_header, dump_of-header}
 use Rattle.vcd_read.proofs.DumpLemmas.{dump_of-whole_header}
-use Rattle.vcd_read.proofs.DefinedLemmas.{taken_head, header_of-taken_head}
+use Rattle.vcd_read.proofs.DefinedLemmas.{HasHeader-visited, dump_of-visited_fails}
 use Rattle.vcd_read.proofs.CurrentValues.{CurrentValues}
 use Rattle.vcd_read.proofs.BodyFoldLemmas.{Ends, Follows, Follows-fold_body, ReadFails-followed, ok-followed}
 use Rattle.vme_bind.specs.declared.fault.BindFault.{BindFault}
@@ -153,57 +153,13 @@ recording_of_text-dump_fails b text fault h = by_kind fault.line fault.kind h
     by_kind line Memory e = e
     by_kind line kind e = ap (recording_read b) e
 
--- if `r` followed by a total function `f` fails, `r` fails with the same fault
-pub ReadFailsAs-before_total : {X Y : Type 0} (line : ℕ) (kind : FaultKind) (r : Result X VcdFault) (f : X → Y)
-    → ReadFailsAs line kind
-    (r >>= λ x. Ok (f x)) → ReadFailsAs line kind r
-ReadFailsAs-before_total line Memory r f h = h
-ReadFailsAs-before_total line kind (Ok x) f h = absurd (cc h)
-ReadFailsAs-before_total line kind (Err fault) f h = let same : fault ≡ record { line = line; kind = kind } =
-    cc h in ap Err same
-
 -- a fault of the definitions is the fault of the text's recording
 pub recording_of_text-header_fails : (b : BoundLines) (text : List ℕ) (seen : List Searched) (fault : VcdFault)
     → ReadFails fault
     (header_of with_variable text (nothing_declared seen) (tokens text)) → CaptureFailsBy (Dump fault)
     (recording_of_text b text)
 recording_of_text-header_fails b text seen fault h =
-    let whole = ReadFailsAs-before_total fault.line fault.kind (whole_header text) (taken_head with_variable seen)
-    (rw (header_of-taken_head with_variable text seen) at h) in
-    recording_of_text-dump_fails b text fault
-    (ReadFails-first fault (whole_header text) contents_of_header _ (dump_of-header text) whole)
-
--- the header of `text` is `h`, and `seen` is `first` after its variables
-abbrev HasHeader : List ℕ → Headed → List Searched → List Searched → Type 0
-HasHeader text h first seen = (variables : List Variable) × (whole_header text ≡ Ok (defined h variables))
-    × (seen ≡ fold with_variable first variables)
-
--- definitions as a result without a fault
-abbrev ok_defined : Defined (List Searched) → Result (Defined (List Searched)) VcdFault
-ok_defined d = Ok d
-
--- the values of equal results without a fault are equal
-ok_same : (x y : Defined (List Searched)) → ok_defined x ≡ ok_defined y → x ≡ y
-ok_same x y e = cc
-
--- where a search through the header `r` of `text` ends with `h` and `seen`, `HasHeader` holds
-HasHeader-by_result : (text : List ℕ) (h : Headed) (first seen : List Searched)
-    (r : Result (Defined (List Variable)) VcdFault)
-    → whole_header text ≡ r → (r >>= λ d. Ok (taken_head with_variable first d)) ≡ Ok (defined h seen)
-    → HasHeader text h first seen
-HasHeader-by_result text h first seen (Ok d) e is =
-    let same = ok_same (taken_head with_variable first d) (defined h seen) is in (
-      d.variables,
-      e ∙ ap (λ (x : Defined (List Searched)). Ok (defined x.head d.variables)) same,
-      sym (ap (λ (x : Defined (List Searched)). x.variables) same),
-    )
-HasHeader-by_result text h first seen (Err fault) e is = absurd (cc is)
-
--- where a search reads the header of `text` without a fault, `HasHeader` holds
-pub HasHeader-searched : (text : List ℕ) (h : Headed) (first seen : List Searched) → header_of with_variable text
-    (nothing_declared first) (tokens text) ≡ Ok (defined h seen) → HasHeader text h first seen
-HasHeader-searched text h first seen e = HasHeader-by_result text h first seen (whole_header text) refl
-    (sym (header_of-taken_head with_variable text first) ∙ e)
+    recording_of_text-dump_fails b text fault (dump_of-visited_fails with_variable fault text seen h)
 
 -- what a function gives for the body after the definitions, it gives for the whole text
 pub GivesBy-recording_of_text : {X : Type 0} (view : X → Trace) (b : BoundLines) (text : List ℕ) (h : Headed)
@@ -213,7 +169,7 @@ pub GivesBy-recording_of_text : {X : Type 0} (view : X → Trace) (b : BoundLine
     → GivesBy view r (recording_after b (defined h variables))) → GivesBy view r (recording_of_text b text)
 unfolding recording_of_text
 GivesBy-recording_of_text view b text h first seen r head given =
-    let whole = HasHeader-searched text h first seen head in
+    let whole = HasHeader-visited with_variable text h first seen head in
     subst (λ (d : Result Contents VcdFault). GivesBy view r (recording_read b d))
     (sym (dump_of-whole_header text (defined h whole.0) whole.1)) (given whole.0 whole.2)
 
@@ -225,7 +181,7 @@ pub recording_of_text-after_header : (b : BoundLines) (text : List ℕ) (h : Hea
     × (recording_of_text b text ≡ recording_after b (defined h variables))
 unfolding recording_of_text
 recording_of_text-after_header b text h first seen head =
-    let whole = HasHeader-searched text h first seen head in
+    let whole = HasHeader-visited with_variable text h first seen head in
     (whole.0, whole.2, ap (recording_read b) (dump_of-whole_header text (defined h whole.0) whole.1))
 
 -- where the binding fits, the recording of the instants is that of the bound groups, or the fault of the dump

@@ -24,7 +24,7 @@ use Rattle.vcd_read.specs.declared.fault.FaultKind.TheVariants.{Memory, NoEndDef
 use Rattle.vcd_read.specs.declared.fault.VcdFault.{VcdFault}
 use Rattle.vcd_read.proofs.BeforeFaultLemmas.{instants_of-before_fault, TimesAscend-before_fault}
 use Rattle.vcd_read.proofs.DumpLemmas.{whole_header}
-use Rattle.vcd_read.proofs.DefinedLemmas.{header_of-taken_head, taken_head}
+use Rattle.vcd_read.proofs.DefinedLemmas.{HasHeader-visited, ReadFails-visited}
 use Rattle.vcd_read.proofs.InstantsLaw.{at_start}
 use Rattle.vcd_read.proofs.BodyFoldLemmas.{Ends, ok-followed, KeepsBefore-reached_before}
 use Rattle.vcd_read.proofs.ReadLemmas.{TimesAscend-instants_from}
@@ -43,9 +43,7 @@ use Rattle.vme_bind.specs.TextReading.{StopsAs, TextReading, body_reading, or_fa
 use Rattle.vme_bind.specs.TextReading.{reading_made, reading_of_text, reading_until_fault}
 use Rattle.vme_bind.proofs.StepsLemmas.{malformed_step-recording}
 use Rattle.vme_bind.proofs.BuilderLemmas.{Makes, makes-first, makes-change, makes-instant}
-use Rattle.vme_bind.proofs.TextCaptureLemmas.{IsMadeOf, builder-follows, ReadFailsAs-before_total, Follows-err}
-use Rattle.vme_bind.proofs.TextCaptureLemmas.{instants_in}
-use Rattle.vme_bind.proofs.TextCaptureLemmas.{HasHeader-searched}
+use Rattle.vme_bind.proofs.TextCaptureLemmas.{IsMadeOf, builder-follows, Follows-err, instants_in}
 
 -- ---- where a body stops
 
@@ -245,8 +243,7 @@ pub reading_of_text-header_fails : (b : BoundLines) (text : List ℕ) (seen : Li
 unfolding reading_of_text
 reading_of_text-header_fails b text seen fault h =
     by_kind fault.line fault.kind
-    (ReadFailsAs-before_total fault.line fault.kind (whole_header text) (taken_head with_variable seen)
-    (rw (header_of-taken_head with_variable text seen) at h))
+    (ReadFails-visited with_variable fault text seen h)
   where
     by_kind : (line : ℕ) (kind : FaultKind) → ReadFailsAs line kind (whole_header text) → DumpFails line kind
         (reading_of_text b text)
@@ -277,5 +274,5 @@ pub reading_of_text-after_header : (b : BoundLines) (text : List ℕ) (h : Heade
     × (reading_of_text b text ≡ reading_after b (defined h variables))
 unfolding reading_of_text
 reading_of_text-after_header b text h first seen head =
-    let whole = HasHeader-searched text h first seen head in
+    let whole = HasHeader-visited with_variable text h first seen head in
     (whole.0, whole.2, ap (read_of b) whole.1)

@@ -1,5 +1,4 @@
 mod FoundLemmas
-mod HeaderLemmas
 mod PathLemmas
 mod ScopeLemmas
 mod SurveyLemmas

@@ -16,16 +16,15 @@ use Rattle.vcd_read.specs.declared.dump.Variable.{Variable}
 use Rattle.vcd_read.specs.declared.fault.FaultKind.{FaultKind}
 use Rattle.vcd_read.specs.declared.fault.FaultKind.TheVariants.{Memory}
 use Rattle.vcd_read.specs.declared.fault.VcdFault.{VcdFault}
-use Rattle.vcd_read.proofs.DefinedLemmas.{header_of-taken_head, taken_head}
+use Rattle.vcd_read.proofs.DefinedLemmas.{HasHeader-visited, ReadFails-visited}
 use Rattle.vcd_read.proofs.DumpLemmas.{contents_of_header, dump_of-whole_header, dump_of-header, with_variables}
 use Rattle.vcd_read.proofs.FrontLemmas.{header_of-longer}
-use Rattle.vcd_read.proofs.ReadLemmas.{ReadFails-first}
+use Rattle.vcd_read.proofs.ReadLemmas.{ReadFails-first, ReadFailsAs-before_total}
 use Rattle.vcd_read.proofs.CurrentValues.{CurrentValues}
 use Rattle.vcd_read.proofs.BodyFoldLemmas.{Ends, Follows, ReadFails-followed, ok-followed, Follows-fold_body}
 use Rattle.vme_declarations.specs.Surveys.{EndsBetweenTokens, IsSurveyOf, Survey, body_ahead, count_after, count_ahead}
 use Rattle.vme_declarations.specs.Surveys.{definitions_of, is_want_of_memory, next_count, same_count, survey_of}
 use Rattle.vme_declarations.specs.Surveys.{variables_by, variables_in, with_count}
-use Rattle.vme_declarations.proofs.HeaderLemmas.{HasHeader-visited}
 
 -- ---- faults
 
@@ -39,15 +38,6 @@ ReadFails-not_memory {X = X} fault r not_want fails = by_kind fault.line fault.k
         → r ≡ Err (record { line = line; kind = kind })
     by_kind line Memory not_want fails = absurd (cc not_want)
     by_kind line kind not_want fails = fails
-
--- if `r` followed by a total function `f` fails, `r` fails with the same fault
-ReadFailsAs-before_total : {X Y : Type 0} (line : ℕ) (kind : FaultKind) (r : Result X VcdFault) (f : X → Y)
-    → ReadFailsAs line kind
-    (r >>= λ x. Ok (f x)) → ReadFailsAs line kind r
-ReadFailsAs-before_total line Memory r f h = h
-ReadFailsAs-before_total line kind (Ok x) f h = absurd (cc h)
-ReadFailsAs-before_total line kind (Err fault) f h = let same : fault ≡ record { line = line; kind = kind } =
-    cc h in ap Err same
 
 -- a fault is the same in a result of another type
 ReadFailsAs-any_value : (X Y : Type 0) (line : ℕ) (kind : FaultKind) (fault : VcdFault)
@@ -75,9 +65,8 @@ pub survey_of-definitions_fail : (text : List ℕ) (fault : VcdFault) → ReadFa
     → ReadFails fault (survey_of text)
 unfolding survey_of
 survey_of-definitions_fail text fault fails =
-    let definitions_fault = ReadFailsAs-before_total fault.line fault.kind (definitions_of text) (taken_head passed tt)
-    (subst (ReadFails fault) (header_of-taken_head passed text tt) fails) in
-    ReadFails-first fault (definitions_of text) surveyed (survey_of text) refl definitions_fault
+    ReadFails-first fault (definitions_of text) surveyed (survey_of text) refl
+    (ReadFails-visited passed fault text tt fails)
 
 -- the survey of a text has its variables and the number of instants after its definitions
 pub survey_of-counts : (text : List ℕ) (h : Headed) (n : ℕ) → header text (tokens text) ≡ Ok (defined h tt)

@@ -2,7 +2,7 @@ use Rattle.std.proofs.Common.{◌∙◌, List, ap, refl, sym}
 use Rattle.vcd_read.specs.declared.dump.Variable.{Variable}
 use Rattle.vme_declarations.specs.Scopes.{has_scope, sought_in}
 use Rattle.vme_declarations.specs.Surveys.{variables_by}
-use Rattle.vme_declarations.proofs.HeaderLemmas.{HasHeader-visited}
+use Rattle.vcd_read.proofs.DefinedLemmas.{HasHeader-visited}
 use Rattle.vme_declarations.proofs.ScopeLemmas.{has_scope-sought}
 use Rattle.vme_declarations.proofs.scope_search.has_scope.Goals as goal
 
