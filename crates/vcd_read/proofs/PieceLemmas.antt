@@ -2,12 +2,12 @@
 use Rattle.std.proofs.Common.{◌≡◌, ℕ, zero, suc, Bool, true, false, ◌+◌, ◌-◌, ◌<◌, ◌≤◌, cond, eqb, List, [], ◌∷◌, ◌++◌}
 use Rattle.std.proofs.Common.{length, get_or, take, drop}
 use Rattle.std.proofs.Common.{refl, sym, ap, subst, ◌∙◌, arith, append_assoc, zero-add}
-use Rattle.std.proofs.lemmas.List.{drop_all, get_or-drop, length-drop, take_all, take_more}
+use Rattle.std.proofs.lemmas.List.{drop_all, get_or-drop, length-drop, take_all, take_more, take-append-drop}
 use Rattle.std.specs.List.{count_by}
 use Rattle.std.proofs.lemmas.List.Sums.{sum_by-cons, sum_by-take-drop}
 use Rattle.vcd_read.specs.Tokens.{Cut, Token, cut_from, cut_tokens, is_space, next_line, token_before, tokens_from}
-use Rattle.vcd_read.specs.Tokens.{with_byte}
-use Rattle.vcd_read.specs.Reading.{line_behind}
+use Rattle.vcd_read.specs.Tokens.{tokens, with_byte}
+use Rattle.vcd_read.specs.Reading.{EndsBetweenTokens, line_behind}
 
 -- `cut` with the tokens `more` after it
 abbrev pub with_tokens : Cut → List Token → Cut
@@ -106,6 +106,15 @@ tokens_from-split_space text rest end line lt space =
     let joined : (take end text ++ get_or text end 0 ∷ []) ++ rest ≡ take end text ++ get_or text end 0
     ∷ rest = append_assoc (take end text) (get_or text end 0 ∷ []) rest in
     rw (front, joined) (tokens_from-split (take end text) (get_or text end 0) rest line space)
+
+-- if the first `k` bytes of a text end between two tokens, its tokens, with `rest` after it, are those of these bytes,
+-- and then the others
+pub tokens-cut : (front : List ℕ) (k : ℕ) → EndsBetweenTokens (take k front) → (rest : List ℕ)
+    → tokens (front ++ rest) ≡ tokens (take k front) ++ tokens_from (line_behind 1 (take k front))
+    (drop k front ++ rest)
+tokens-cut front k ends rest =
+    ap tokens (ap (λ (l : List ℕ). l ++ rest) (sym (take-append-drop k front))
+    ∙ append_assoc (take k front) (drop k front) rest) ∙ ends 1 (drop k front ++ rest)
 
 -- what is left of a text from a place on, by its length
 pub drop-by_length : (text : List ℕ) (at : ℕ) → at ≤ length text → drop at text

@@ -1,11 +1,11 @@
 //! The tokens of a text, from the left.
 
-ghost use Rattle.std.specs.Prelude.{◌≡◌, ℕ, true, false, ◌+◌, ◌∷◌, ◌++◌, List, [], ◌<◌, ◌≤◌, length, slice_index, take};
+ghost use Rattle.std.specs.Prelude.{◌≡◌, ℕ, true, false, ◌+◌, ◌∷◌, [], ◌<◌, ◌≤◌, length, slice_index, take};
 ghost use Rattle.std.specs.Prelude.{◌==◌, ◌||◌, ◌-◌, IfSome, IfNone, MatchOption, get_or};
-ghost use Rattle.vcd_read.specs.Tokens.{is_space, tokens_from};
+ghost use Rattle.vcd_read.specs.Tokens.{is_space};
 ghost use Rattle.vcd_read.specs.Body.{scalar, vector};
-ghost use Rattle.vcd_read.specs.Reading.{IsShapeAt, IsStart, IsTimeAt, left_at, line_behind, line_of, tokens_after};
-ghost use Rattle.vcd_read.specs.Reading.{token_at};
+ghost use Rattle.vcd_read.specs.Reading.{EndsBetweenTokens, IsShapeAt, IsStart, IsTimeAt, left_at, line_of, token_at};
+ghost use Rattle.vcd_read.specs.Reading.{tokens_after};
 
 use crate::body_piece::{BodyPiece, Start};
 use crate::fault::{FaultKind, VcdFault};
@@ -59,8 +59,7 @@ fn begins_vector(b: u8) -> bool
 pub fn whole_tokens(text: &[u8]) -> usize
     ensures within { result ≤ length text.now }
     ensures space { 0 < result → is_space (get_or text.now (result - 1) 0) ≡ true }
-    ensures apart { (line : ℕ) (rest : List ℕ) → tokens_from line (take result text.now ++ rest)
-        ≡ tokens_from line (take result text.now) ++ tokens_from (line_behind line (take result text.now)) rest }
+    ensures apart { EndsBetweenTokens (take result text.now) }
 {
     let mut end = text.len();
     while end > 0 {

@@ -1,6 +1,6 @@
 -- The fold over the body of a dump gives the first time of the dump, or has the fault of the dump.
 use Rattle.std.proofs.Common.{◌≡◌, ℕ, false, List, [], ◌∷◌, ◌++◌, Option, None, Result, Ok, Err, refl, sym, ap}
-use Rattle.std.proofs.Common.{subst, ◌∙◌, append_assoc, drop, take, take-append-drop}
+use Rattle.std.proofs.Common.{subst, ◌∙◌}
 use Rattle.vcd_read.specs.declared.dump.Instant.{Instant}
 use Rattle.vcd_read.specs.declared.dump.Variable.{Variable}
 use Rattle.vcd_read.specs.declared.fault.FaultKind.{FaultKind}
@@ -14,10 +14,9 @@ use Rattle.vcd_read.specs.Fronts.{going_on}
 use Rattle.vcd_read.specs.Header.{◌>>=◌, Net, nothing_declared}
 use Rattle.vcd_read.specs.Meaning.{ReadFails, ReadFailsAs, dump_of, instants_from}
 use Rattle.vcd_read.specs.Reached.{Reached, outcome_of, rest_of}
-use Rattle.vcd_read.specs.Reading.{line_behind}
 use Rattle.vcd_read.specs.Sections.{Defined, Headed, defined, header_of}
 use Rattle.vcd_read.specs.BodyFold.{State, BodyFold, at_end, fold_body}
-use Rattle.vcd_read.specs.Tokens.{Token, tokens, tokens_from}
+use Rattle.vcd_read.specs.Tokens.{Token, tokens}
 use Rattle.vcd_read.proofs.DefinedLemmas.{HasHeader-visited, dump_of-visited_fails, header_of-taken_head, taken_head}
 use Rattle.vcd_read.proofs.DumpLemmas.{contents_of_header, dump_of-whole_header, dump_of-header, whole_header}
 use Rattle.vcd_read.proofs.DumpLemmas.{with_variables}
@@ -188,16 +187,3 @@ pub first_time_of_dump-outcome : (r : Reached (Option ℕ)) (time : Option ℕ) 
     → LeadsToFirstTime r [] dump → first_time_of_dump dump ≡ time
 first_time_of_dump-outcome r time dump gives comes =
     let same : ◌≡◌ {A = Result (Option ℕ) VcdFault} (Ok (first_time_of_dump dump)) (Ok time) = sym comes ∙ gives in cc
-
--- ---- the whole tokens of a front
-
--- if the first `k` bytes of a front end at a token boundary, its tokens, with `rest` after it, are those of these
--- bytes, and then the others
-pub tokens-cut : (front : List ℕ) (k : ℕ)
-    → ((line : ℕ) (rest : List ℕ) → tokens_from line (take k front ++ rest)
-    ≡ tokens_from line (take k front) ++ tokens_from (line_behind line (take k front)) rest) → (rest : List ℕ)
-    → tokens (front ++ rest) ≡ tokens (take k front) ++ tokens_from (line_behind 1 (take k front))
-    (drop k front ++ rest)
-tokens-cut front k apart rest =
-    ap tokens (ap (λ (l : List ℕ). l ++ rest) (sym (take-append-drop k front))
-    ∙ append_assoc (take k front) (drop k front) rest) ∙ apart 1 (drop k front ++ rest)

@@ -3,7 +3,7 @@ use Rattle.std.proofs.Common.{◌≡◌, ℕ, false, List, [], ◌++◌, Result,
 use Rattle.vme_trace.specs.Trace.{Trace}
 use Rattle.vcd_read.specs.Header.{◌>>=◌}
 use Rattle.vcd_read.specs.Body.{body_from}
-use Rattle.vcd_read.specs.Reading.{line_behind}
+use Rattle.vcd_read.specs.Reading.{EndsBetweenTokens, line_behind}
 use Rattle.vcd_read.specs.BodyFold.{at_end, state_at, steps}
 use Rattle.vcd_read.specs.Tokens.{Token, tokens, tokens_from}
 use Rattle.vcd_read.specs.declared.fault.FaultKind.{FaultKind}
@@ -17,11 +17,6 @@ use Rattle.vme_bind.specs.BuilderState.{builder_change, builder_instant}
 use Rattle.vme_bind.specs.TextCapture.{BindingFails, DumpFails, CaptureFailsBy, recording_of_text}
 use Rattle.vme_bind.specs.TextPieces.{TextReached, outcome, outcome_ahead}
 use Rattle.vme_bind.specs.Wants.{is_want}
-
--- no token of a text lies across the end of its prefix `front`
-abbrev IsCutBetweenTokens : List ℕ → Type 0
-IsCutBetweenTokens front = (line : ℕ) (rest : List ℕ) → tokens_from line (front ++ rest) ≡ tokens_from line front
-    ++ tokens_from (line_behind line front) rest
 
 module _ (t : TextReached) where
   -- the result for the tokens `ts`
@@ -47,7 +42,7 @@ module _ (t : TextReached) where
 
   -- where the prefix `front` begins the body, the result for the text is that for the rest
   pub recording_of_text-begun : (b : BoundLines) (front : List ℕ) (line : ℕ) → line ≡ line_behind 1 front
-      → IsCutBetweenTokens front
+      → EndsBetweenTokens front
       → ((whole : List ℕ) (more : List Token) → tokens whole ≡ tokens front ++ more → recording_of_text b whole
       ≡ outcome_ahead t [] more)
       → (rest : List ℕ) → recording_of_text b (front ++ rest) ≡ outcome_ahead t (tokens_from line rest) []
@@ -58,7 +53,7 @@ module _ (t : TextReached) where
 
 -- where a piece of the body is read, the result for the piece and the rest is that for the rest
 pub outcome_ahead-piece : (t t2 : TextReached) (piece : List ℕ) (line line2 : ℕ)
-    → line2 ≡ line_behind line piece → IsCutBetweenTokens piece
+    → line2 ≡ line_behind line piece → EndsBetweenTokens piece
     → ((more : List Token) → outcome_ahead t (tokens_from line piece) more ≡ outcome_ahead t2 [] more)
     → (rest : List ℕ) → outcome_ahead t (tokens_from line (piece ++ rest)) [] ≡ outcome_ahead t2
     (tokens_from line2 rest) []
@@ -104,7 +99,7 @@ CaptureFailsBy-not_memory (Binding fault) answer not_want is = by_kind fault.lin
 
 -- a fault of a piece of the body is the result for the text
 pub outcome_ahead-piece_fails : (t : TextReached) (piece : List ℕ) (line : ℕ) (fault : CaptureFault)
-    → IsCutBetweenTokens piece → is_want fault ≡ false
+    → EndsBetweenTokens piece → is_want fault ≡ false
     → ((more : List Token) → CaptureFailsBy fault (outcome_ahead t (tokens_from line piece) more))
     → (rest : List ℕ) → outcome_ahead t (tokens_from line (piece ++ rest)) [] ≡ Err fault
 outcome_ahead-piece_fails t piece line fault ends not_want fails rest =
@@ -113,7 +108,7 @@ outcome_ahead-piece_fails t piece line fault ends not_want fails rest =
     ∙ CaptureFailsBy-equal fault (outcome_ahead t (tokens_from line piece) more) not_want (fails more)
 
 -- a fault of the prefix `front` is the result for the text
-pub recording_of_text-front_fails : (b : BoundLines) (front : List ℕ) (fault : CaptureFault) → IsCutBetweenTokens front
+pub recording_of_text-front_fails : (b : BoundLines) (front : List ℕ) (fault : CaptureFault) → EndsBetweenTokens front
     → is_want fault ≡ false
     → ((whole : List ℕ) (more : List Token) → tokens whole ≡ tokens front ++ more → CaptureFailsBy fault
     (recording_of_text b whole))

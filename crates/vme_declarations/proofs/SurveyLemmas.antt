@@ -7,7 +7,7 @@ use Rattle.vcd_read.specs.Fronts.{going_on}
 use Rattle.vcd_read.specs.Header.{◌>>=◌, appended, nothing_declared}
 use Rattle.vcd_read.specs.Meaning.{ReadFails, ReadFailsAs, dump_of, instants_from}
 use Rattle.vcd_read.specs.Reached.{Reached, rest_of}
-use Rattle.vcd_read.specs.Reading.{line_behind}
+use Rattle.vcd_read.specs.Reading.{EndsBetweenTokens, line_behind}
 use Rattle.vcd_read.specs.Sections.{Defined, Headed, defined, header_of}
 use Rattle.vcd_read.specs.BodyFold.{State, at_end, state_at, steps, fold_body}
 use Rattle.vcd_read.specs.Tokens.{Token, tokens, tokens_from}
@@ -22,7 +22,7 @@ use Rattle.vcd_read.proofs.FrontLemmas.{header_of-longer}
 use Rattle.vcd_read.proofs.ReadLemmas.{ReadFails-first, ReadFailsAs-before_total}
 use Rattle.vcd_read.proofs.CurrentValues.{CurrentValues}
 use Rattle.vcd_read.proofs.BodyFoldLemmas.{Ends, Follows, ReadFails-followed, ok-followed, Follows-fold_body}
-use Rattle.vme_declarations.specs.Surveys.{EndsBetweenTokens, IsSurveyOf, Survey, body_ahead, count_after, count_ahead}
+use Rattle.vme_declarations.specs.Surveys.{IsSurveyOf, Survey, body_ahead, count_after, count_ahead}
 use Rattle.vme_declarations.specs.Surveys.{definitions_of, is_want_of_memory, next_count, same_count, survey_of}
 use Rattle.vme_declarations.specs.Surveys.{variables_by, variables_in, with_count}
 

@@ -1,10 +1,9 @@
 -- The survey of a dump: its variables, and the number of its instants.
-use Rattle.std.specs.Prelude.{◌≡◌, ◌+◌, ◌++◌, ℕ, Bool, true, false, List, [], length, Result, Ok, Err}
+use Rattle.std.specs.Prelude.{◌≡◌, ◌+◌, ℕ, Bool, true, false, List, [], length, Result, Ok, Err}
 use Rattle.vcd_read.specs.Contents.{Contents}
 use Rattle.vcd_read.specs.Header.{◌>>=◌, appended, nothing_declared}
 use Rattle.vcd_read.specs.Meaning.{dump_of}
 use Rattle.vcd_read.specs.Reached.{Reached, outcome_of, rest_of}
-use Rattle.vcd_read.specs.Reading.{line_behind}
 use Rattle.vcd_read.specs.Sections.{Defined, header_of}
 use Rattle.vcd_read.specs.BodyFold.{at_end, fold_body}
 use Rattle.vcd_read.specs.Tokens.{tokens, tokens_from}
@@ -68,11 +67,6 @@ IsSurveyOf survey text = (contents : Contents) × (dump_of text ≡ Ok contents)
     × (contents.variables ≡ survey.variables) × (length contents.instants ≡ survey.instants)
 
 -- ---- as the text comes
-
--- no token of a text lies across the end of its prefix `front`
-abbrev pub EndsBetweenTokens : List ℕ → Type 0
-EndsBetweenTokens front = (line : ℕ) (rest : List ℕ) → tokens_from line (front ++ rest)
-    ≡ tokens_from line front ++ tokens_from (line_behind line front) rest
 
 -- the number of instants of a body that is read to `r` and continues with `rest`, or its first fault
 abbrev pub count_ahead : Reached ℕ → List ℕ → Result ℕ VcdFault

@@ -8,9 +8,9 @@ use Rattle.vcd_read.specs.declared.dump.Variable.{Variable}
 use Rattle.vcd_read.specs.declared.fault.FaultKind.{FaultKind}
 use Rattle.vcd_read.specs.declared.fault.FaultKind.TheVariants.{Memory}
 use Rattle.vcd_read.specs.declared.fault.VcdFault.{VcdFault}
-use Rattle.vcd_read.specs.Reading.{line_behind}
+use Rattle.vcd_read.specs.Reading.{EndsBetweenTokens, line_behind}
 use Rattle.vcd_read.specs.Tokens.{Token, is_space, tokens, tokens_from}
-use Rattle.vcd_read.proofs.PieceLemmas.{tokens_from-append_left}
+use Rattle.vcd_read.proofs.PieceLemmas.{tokens-cut, tokens_from-append_left}
 use Rattle.vcd_read.proofs.DumpLemmas.{contents_of_header, dump_of-header, whole_header}
 use Rattle.vme_bind.specs.Binding.{BoundLines}
 use Rattle.vme_bind.specs.BoundGroups.{bound_groups_in}
@@ -83,11 +83,6 @@ CaptureFailsBy-same_fault (Binding reported) fault a b ea eb fails = by_kind rep
 
 -- ---- a body that begins in the front of a text
 
--- the first `k` bytes of `front` end at a token boundary, whatever follows them
-abbrev pub IsApart : List ℕ → ℕ → Type 0
-IsApart front k = (line : ℕ) (rest : List ℕ) → tokens_from line (take k front ++ rest)
-    ≡ tokens_from line (take k front) ++ tokens_from (line_behind line (take k front)) rest
-
 -- the bytes end with a space, if there are any
 abbrev pub EndsAfterSpace : List ℕ → Type 0
 EndsAfterSpace cut = 0 < length cut → is_space (get_or cut (length cut - 1) 0) ≡ true
@@ -101,17 +96,7 @@ EndsAfterSpace-take front k within space some =
     ∙ ap is_space (get_or-take k front (k - 1) 0 (omega (arith, e, some)))
     ∙ space (omega (arith, e, some))
 
--- a front and a rest are its first `k` bytes, and then the others and the rest
-append-split : (front : List ℕ) (k : ℕ) (rest : List ℕ) → front ++ rest ≡ take k front ++ (drop k front ++ rest)
-append-split front k rest = ap (λ (bytes : List ℕ). bytes ++ rest) (sym (take-append-drop k front))
-    ∙ append_assoc (take k front) (drop k front) rest
-
--- the tokens of a front and a rest are those of its first `k` bytes, and then those of the others and the rest
-tokens-cut : (front : List ℕ) (k : ℕ) → IsApart front k → (rest : List ℕ) → tokens (front ++ rest)
-    ≡ tokens (take k front) ++ tokens_from (line_behind 1 (take k front)) (drop k front ++ rest)
-tokens-cut front k apart rest = ap tokens (append-split front k rest) ∙ apart 1 (drop k front ++ rest)
-
-module _ (b : BoundLines) (front : List ℕ) (k : ℕ) (apart : IsApart front k) where
+module _ (b : BoundLines) (front : List ℕ) (k : ℕ) (apart : EndsBetweenTokens (take k front)) where
   -- the first `k` bytes of `front`
   abbrev cut : List ℕ
   cut = take k front

@@ -10,7 +10,7 @@ use Rattle.vme_trace.specs.WellFormed.{malformed_step}
 use Rattle.vme_trace.specs.declared.step.Step.{Step}
 use Rattle.vcd_read.specs.Bodies.{until_fault}
 use Rattle.vcd_read.specs.Body.{body_from}
-use Rattle.vcd_read.specs.Reading.{line_behind}
+use Rattle.vcd_read.specs.Reading.{EndsBetweenTokens, line_behind}
 use Rattle.vcd_read.specs.BodyFold.{state_at}
 use Rattle.vcd_read.specs.Tokens.{Token, cut_from, tokens_from}
 use Rattle.vcd_read.specs.declared.fault.FaultKind.{FaultKind}
@@ -101,8 +101,7 @@ reading_ahead-rest_alone t ts = ap (ahead_of t) (sym (append-nil ts))
 
 -- the first `n` of `bytes`, which end at a token boundary
 module _ (given : Trace) (w : SpeculativeReached) (bytes : List ℕ) (n : ℕ)
-    (apart : (line : ℕ) (rest : List ℕ) → tokens_from line (take n bytes ++ rest)
-    ≡ tokens_from line (take n bytes) ++ tokens_from (line_behind line (take n bytes)) rest) where
+    (apart : EndsBetweenTokens (take n bytes)) where
   -- the reader before the bytes
   abbrev so_far : StepReading
   so_far = record { given = given; speculative = w }

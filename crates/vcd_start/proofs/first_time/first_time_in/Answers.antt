@@ -2,7 +2,7 @@ use Rattle.std.proofs.Common.{◌++◌, drop, take}
 use Rattle.std.proofs.lemmas.Result.{IfOk-weaker}
 use Rattle.vcd_read.specs.Reading.{line_behind}
 use Rattle.vcd_read.specs.Tokens.{tokens_from}
-use Rattle.vcd_start.proofs.FirstTimeLemmas.{tokens-cut}
+use Rattle.vcd_read.proofs.PieceLemmas.{tokens-cut}
 use Rattle.vcd_start.proofs.first_time.first_time_in.Goals as goal
 
 pub returns : goal.returns
