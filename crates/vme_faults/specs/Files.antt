@@ -2,13 +2,10 @@
 use Rattle.std.specs.Prelude.{ℕ, Bool, true, false, not, ◌==◌, ◌&&◌, ◌||◌, nat_eq, nat_le, if◌then◌else◌, List, [], ◌∷◌}
 use Rattle.std.specs.Prelude.{Option, None, Some, codes}
 use Rattle.std.specs.List.{starts_with}
+use Rattle.vcd_read.specs.Numbers.{is_empty}
+use Rattle.vcd_read.specs.Tokens.{is_space}
 use Rattle.vme_faults.specs.declared.file_kind.FileKind.{FileKind}
 use Rattle.vme_faults.specs.declared.file_kind.FileKind.TheVariants as file
-
--- there are no bytes
-abbrev pub is_empty : List ℕ → Bool
-is_empty [] = true
-is_empty (b ∷ bytes) = false
 
 -- the bytes begin with `magic`
 unfoldable pub begins_with : List ℕ → List ℕ → Bool
@@ -45,10 +42,6 @@ little_mark = 255 ∷ 254 ∷ []
 -- the byte order mark of UTF-16 whose bytes are in big-endian order
 abbrev pub big_mark : List ℕ
 big_mark = 254 ∷ 255 ∷ []
-
--- a space, a tab, a line feed or a carriage return
-abbrev pub is_space : ℕ → Bool
-is_space b = b == 32 || b == 9 || b == 10 || b == 13
 
 -- the text from its first word on that isn't in a comment, i.e. a line that begins with #; `within` says that the text
 -- begins in a comment

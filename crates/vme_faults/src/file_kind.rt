@@ -2,7 +2,9 @@
 
 ghost use Rattle.std.specs.Prelude.{◌≡◌, false};
 ghost use Rattle.vme_faults.specs.Files.{after_comments, begins_with, file_help, file_kind, file_name, is_big_utf16};
-ghost use Rattle.vme_faults.specs.Files.{is_binding, is_dump, is_little_utf16, is_space, is_text, unmarked};
+ghost use Rattle.vme_faults.specs.Files.{is_binding, is_dump, is_little_utf16, is_text, unmarked};
+
+use vcd_read::is_space;
 
 /// A kind of file.
 #[derive(Clone, Copy, Debug, PartialEq, Eq)]
@@ -198,11 +200,4 @@ fn after_comments(text: &[u8]) -> &[u8]
         rest = others;
     }
     rest
-}
-
-/// Whether a byte is a space, a tab, a line feed or a carriage return.
-fn is_space(byte: u8) -> bool
-    ensures { result ≡ is_space byte }
-{
-    matches!(byte, b' ' | b'\t' | b'\n' | b'\r')
 }

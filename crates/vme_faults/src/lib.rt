@@ -13,7 +13,7 @@
 //!   which program makes a plain dump of it.
 //! - `nearness`: [`nearest`], the variables whose paths are nearest to one.
 //! - `kept_lines`: [`KeptLines`], which takes the pieces of a dump, and keeps the line of a fault;
-//!   `line_tokens`: which bytes are spaces, and the tokens and lines in some bytes.
+//!   `line_tokens`: the tokens and the lines in some bytes.
 //!
 //! # What is proved
 //!

@@ -1,9 +1,6 @@
 //! The tokens and the lines in some bytes of a dump.
 
-/// Whether a byte is white space, which separates tokens.
-pub(crate) fn is_space(byte: u8) -> bool {
-    matches!(byte, b' ' | b'\t' | b'\n' | b'\r')
-}
+use vcd_read::is_space;
 
 /// The index of the first byte of the last token of `bytes`, if they have one.
 pub(crate) fn last_token(bytes: &[u8]) -> Option<usize> {
