@@ -22,7 +22,7 @@ use Rattle.vcd_read.specs.Body.{fitting, skipped, context_after, context_after_a
 use Rattle.vcd_read.specs.Meaning.{NetChange, change_of, changes_from, instant_at, instants_of, last_at, times_from}
 use Rattle.vcd_read.specs.Meaning.{value_at, values_at}
 use Rattle.vcd_read.proofs.CodesLemmas.{net_of-push, net_of-within, size_of-before}
-use Rattle.vcd_read.proofs.ContextLemmas.{bind-ok}
+use Rattle.vcd_read.proofs.ResultLemmas.{bind-ok}
 use Rattle.vcd_places.proofs.SkippedLemmas.{instants_in}
 
 -- ---- lists

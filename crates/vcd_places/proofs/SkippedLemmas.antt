@@ -13,16 +13,12 @@ use Rattle.vcd_read.specs.Body.{BodyItem, BodyContext, at_the_end, dump_section_
 use Rattle.vcd_read.specs.Body.{first_context}
 use Rattle.vcd_read.specs.Body.{fitting, skipped, context_after, context_after_all, time_item, wrong}
 use Rattle.vcd_read.specs.Meaning.{NetChange, change_of, changes_from, instant_at, instants_of, times_from}
+use Rattle.vcd_read.proofs.ResultLemmas.{bind-same}
 
 -- the instants of the items of a body, or their first fault
 abbrev pub instants_in : List Net → List BodyItem → Result (List Instant) VcdFault
 instants_in nets items = context_after_all nets first_context items
     >>= λ end. at_the_end end >>= λ stood. Ok (instants_of nets items)
-
--- functions that are the same make the same of a result
-pub bind-same : {A B E : Type 0} (r : Result A E) (f g : A → Result B E) → ((a : A) → f a ≡ g a) → (r >>= f) ≡ (r >>= g)
-bind-same (Ok a) f g same = same a
-bind-same (Err e) f g same = refl
 
 -- no number is below 0
 nat_lt-zero : (n : ℕ) → nat_lt n 0 ≡ false

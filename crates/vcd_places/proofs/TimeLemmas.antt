@@ -10,7 +10,8 @@ use Rattle.vcd_read.specs.Header.{◌>>=◌, Net, net_of}
 use Rattle.vcd_read.specs.Body.{BodyContext, BodyItem, dump_section_end, dump_section_open, change, closed}
 use Rattle.vcd_read.specs.Body.{context_after, context_after_all, fitting, opened_at, skipped, time_item, wrong}
 use Rattle.vcd_read.specs.Meaning.{times_from}
-use Rattle.vcd_read.proofs.ContextLemmas.{bind-ok, context_after-time, now-unchanged}
+use Rattle.vcd_read.proofs.ResultLemmas.{bind-ok}
+use Rattle.vcd_read.proofs.ContextLemmas.{context_after-time, now-unchanged}
 use Rattle.vcd_places.specs.Places.{if_time, item_times}
 use Rattle.vcd_places.specs.Times.{IsAscendingFrom, is_among}
 

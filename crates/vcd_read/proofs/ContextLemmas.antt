@@ -7,12 +7,7 @@ use Rattle.vcd_read.specs.declared.fault.FaultKind.{FaultKind}
 use Rattle.vcd_read.specs.Numbers.{number, time_of}
 use Rattle.vcd_read.specs.Header.{◌>>=◌, at_line, Net}
 use Rattle.vcd_read.specs.Body.{BodyContext, context_after, time_after, time_item}
-
--- if a result of two steps is no fault, neither step is one
-pub bind-ok : {A B E : Type 0} (r : Result A E) (f : A → Result B E) (y : B) → (r >>= f) ≡ Ok y
-    → (x : A) × (r ≡ Ok x) × (f x ≡ Ok y)
-bind-ok (Ok x) f y h = (x, refl, h)
-bind-ok (Err e) f y h = absurd cc
+use Rattle.vcd_read.proofs.ResultLemmas.{bind-ok}
 
 -- a result with a line that is no fault is none without the line
 at_line-ok : {A : Type 0} (line : ℕ) (r : Result A FaultKind) (x : A) → at_line line r ≡ Ok x → r ≡ Ok x

@@ -20,6 +20,7 @@ use Rattle.vcd_read.specs.Header.{declare_all, declare_section, declare_var, ope
 use Rattle.vcd_read.specs.Sections.{Ended, after_word, ended_in, section_from, after_section, opening_of, Defined}
 use Rattle.vcd_read.specs.Sections.{headed, header_of, rest_of_header}
 use Rattle.vcd_read.specs.Meaning.{ReadFails, body_of}
+use Rattle.vcd_read.proofs.ResultLemmas.{bind-same}
 use Rattle.vcd_read.proofs.ReadLemmas.{ReadFails-first}
 
 -- ---- what a token opens
@@ -162,12 +163,6 @@ module _ {V : Type 0} (with_variable : V → Variable → V) where
   bind_assoc (Ok x) f g = refl
   bind_assoc (Err fault) f g = refl
 
-  -- functions that agree give the same of what is read
-  bind_same : {A B : Type 0} (read : Result A VcdFault) (f g : A → Result B VcdFault) → ((x : A) → f x ≡ g x)
-      → (read >>= f) ≡ (read >>= g)
-  bind_same (Ok x) f g same = same x
-  bind_same (Err fault) f g same = refl
-
   -- the header from the end of a section on is the body after it, if `end` holds, and else what the section declares
   -- and the header after it
   rest_of_header-section : (text : List ℕ) (d : Declared V) (section : Section) (rest : List Token) (end : Bool)
@@ -230,7 +225,7 @@ module _ {V : Type 0} (with_variable : V → Variable → V) where
   unfolding Opens
   header_of-var text d t ts e =
       let is = OpensAs-opening_of t.bytes Var e in
-      header_of-section text d t ts is.0 ∙ bind_same (section_from t.line ts) (after_opened text d t) _
+      header_of-section text d t ts is.0 ∙ bind-same (section_from t.line ts) (after_opened text d t) _
       (λ ended. ap (after_opened_by text d t.line ended) (same_bytes t.bytes (codes "$var") is.1))
 
   -- the header from a section `$scope` on is the scope that it opens, and the header after it
@@ -240,7 +235,7 @@ module _ {V : Type 0} (with_variable : V → Variable → V) where
   unfolding Opens
   header_of-scope text d t ts e =
       let is = OpensAs-opening_of t.bytes Scope e in
-      header_of-section text d t ts is.0 ∙ bind_same (section_from t.line ts) (after_opened text d t) _
+      header_of-section text d t ts is.0 ∙ bind-same (section_from t.line ts) (after_opened text d t) _
       (λ ended. ap (after_opened_by text d t.line ended) (same_bytes t.bytes (codes "$scope") is.1))
 
   -- the header from a section `$upscope` on is the scope that it closes, and the header after it
@@ -251,7 +246,7 @@ module _ {V : Type 0} (with_variable : V → Variable → V) where
   header_of-upscope text d t ts e =
       let is = OpensAs-opening_of t.bytes Upscope e in
       header_of-section text d t ts is.0
-      ∙ bind_same (section_from t.line ts) (after_opened text d t) _ (λ ended. ap (after_opened_by text d t.line ended)
+      ∙ bind-same (section_from t.line ts) (after_opened text d t) _ (λ ended. ap (after_opened_by text d t.line ended)
       (same_bytes t.bytes (codes "$upscope") is.1))
       ∙ bind-rest (section_from t.line ts) (λ rest. at_line t.line (close_scope d d.scopes) >>= λ next. header_of
       with_variable text next rest)
@@ -264,7 +259,7 @@ module _ {V : Type 0} (with_variable : V → Variable → V) where
   header_of-enddefinitions text d t ts e =
       let is = OpensAs-opening_of t.bytes EndDefinitions e in
       header_of-section text d t ts is.0
-      ∙ bind_same (section_from t.line ts) (after_opened text d t) _ (λ ended. ap (after_opened_by text d t.line ended)
+      ∙ bind-same (section_from t.line ts) (after_opened text d t) _ (λ ended. ap (after_opened_by text d t.line ended)
       (same_bytes t.bytes (codes "$enddefinitions") is.1))
       ∙ bind-rest (section_from t.line ts) (λ rest. Ok (headed d rest))
 
@@ -287,7 +282,7 @@ module _ {V : Type 0} (with_variable : V → Variable → V) where
   header_of-skipped text d t ts e =
       let is = OpensAs-opening_of t.bytes Skipped e in
       header_of-section text d t ts is.opens_one
-      ∙ bind_same (section_from t.line ts) (after_opened text d t) _
+      ∙ bind-same (section_from t.line ts) (after_opened text d t) _
       (λ ended. after_opened-skipped text d t.line ended.rest
       (section_with (opened t) ended.words) _ _ _ _ is.no_end is.no_var is.no_scope is.no_upscope)
       ∙ bind-rest (section_from t.line ts) (λ rest. header_of with_variable text d rest)

@@ -22,7 +22,8 @@ use Rattle.vcd_read.specs.Meaning.{NetChange, change_of, changes_from, times_fro
 use Rattle.vcd_read.specs.Meaning.{instant_at, instants_of}
 use Rattle.vcd_read.specs.DumpProgress.{DumpProgress, values_from, advanced, ended, progress_after, DumpState, step}
 use Rattle.vcd_read.specs.DumpProgress.{steps}
-use Rattle.vcd_read.proofs.ContextLemmas.{bind-ok, context_after-time, now-unchanged}
+use Rattle.vcd_read.proofs.ResultLemmas.{bind-ok}
+use Rattle.vcd_read.proofs.ContextLemmas.{context_after-time, now-unchanged}
 
 -- ---- the fold without its faults
 

@@ -6,6 +6,7 @@ pub mod CodeIndexLemmas
 pub mod Fill
 pub mod CurrentValues
 pub mod ChangedNetLemmas
+pub mod ResultLemmas
 pub mod ContextLemmas
 pub mod InstantsLaw
 pub mod BeforeFaultLemmas

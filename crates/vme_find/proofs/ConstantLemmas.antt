@@ -35,7 +35,7 @@ abbrev OkOf : {X A E : Type 0} → (X → Result A E) → Type 0
 OkOf {X} {A} {E} f = A
 
 -- the type of bound groups
-abbrev BoundGroupType : Type 0
+abbrev pub BoundGroupType : Type 0
 BoundGroupType = OkOf (bound_group_in [])
 
 -- each line of the group `w` has the same level after n and after m instants

@@ -12,6 +12,7 @@ use Rattle.vme_trace.specs.Names.{line_name, line_named}
 use Rattle.vme_trace.proofs.NameLaws.{line_named-is}
 use Rattle.vme_trace.proofs.Ranges.{any-fails}
 use Rattle.vcd_read.specs.Header.{◌>>=◌}
+use Rattle.vcd_read.proofs.ResultLemmas.{bind-same}
 use Rattle.vme_bind.specs.Answers.{at_line}
 use Rattle.vme_bind.specs.Binding.{BoundLines, binding_from, binding_of, bound, bound_all, finished, group_of}
 use Rattle.vme_bind.specs.Binding.{name_and_source, no_assignments, once, slots_stated, with_assignment}
@@ -162,11 +163,6 @@ AllAgreeWithTable : List StatementText → Type 0
 AllAgreeWithTable [] = Unit {0}
 AllAgreeWithTable (s ∷ ss) = AgreesWithTable s.first × AllAgreeWithTable ss
 
--- `r` with the same continuation at each value gives the same
-bind_same : {A B E : Type 0} (r : Result A E) (f g : A → Result B E) → ((x : A) → f x ≡ g x) → (r >>= f) ≡ (r >>= g)
-bind_same (Ok x) f g same = same x
-bind_same (Err e) f g same = refl
-
 -- `b` with the lines of `group` assigned to `source` by the statement `s`, or why they can't be
 abbrev with_group : BoundLines → StatementText → List ℕ → Option Group → Result BoundLines BindFaultKind
 with_group b s source group = group_of group >>= λ group. once b.assignments group >>= λ new. Ok
@@ -202,7 +198,7 @@ bound_all-is_by_table [] b agrees = refl
 bound_all-is_by_table (s ∷ ss) b agrees =
     ap (λ (r : Result BoundLines BindFaultKind). at_line s.line r >>= λ next. bound_all next ss)
     (bound-is_by_table b s agrees.0)
-    ∙ bind_same (at_line s.line (bound_by_table b s)) (λ next. bound_all next ss) (λ next. bound_all_by_table next ss)
+    ∙ bind-same (at_line s.line (bound_by_table b s)) (λ next. bound_all next ss) (λ next. bound_all_by_table next ss)
     (λ next. bound_all-is_by_table ss next agrees.1)
 
 -- the group of the name of the line `l` is that line alone

@@ -11,7 +11,7 @@ use Rattle.vcd_read.specs.declared.dump.Instant.{Instant}
 use Rattle.vcd_read.specs.declared.dump.Variable.{Variable}
 use Rattle.vcd_read.specs.declared.fault.VcdFault.{VcdFault}
 use Rattle.vme_bind.specs.Binding.{BoundLines, binding_of}
-use Rattle.vme_bind.specs.BoundGroups.{bound_group_in, bound_groups_in}
+use Rattle.vme_bind.specs.BoundGroups.{bound_groups_in}
 use Rattle.vme_bind.specs.Capture.{capture_of, is_step, limited, recording, step_at}
 use Rattle.vme_bind.specs.TextCapture.{capture_of_text, capture_read, or_binding, or_dump}
 use Rattle.vme_bind.specs.TextReading.{TextReading, or_fault, reading_after, reading_of_text}
@@ -20,18 +20,11 @@ use Rattle.vme_bind.specs.declared.fault.BindFaultKind.TheVariants.{TooManySteps
 use Rattle.vme_bind.specs.declared.fault.CaptureFault.{CaptureFault}
 use Rattle.vme_declarations.specs.Surveys.{Survey, definitions_of, most_instants, variables_by, variables_in}
 use Rattle.vme_find.specs.Recordings.{MakesRecordings, finds_all}
+use Rattle.vme_find.proofs.ConstantLemmas.{BoundGroupType}
 use Rattle.vme_trace.specs.Instants.{those}
 use Rattle.vme_trace.specs.Trace.{Trace}
 use Rattle.vme_trace.specs.WellFormed.{capture_limit}
 use Rattle.vme_trace.specs.declared.step.Step.{Step}
-
--- the type of the values that a function gives
-abbrev OkOf : {X A E : Type 0} → (X → Result A E) → Type 0
-OkOf {X} {A} {E} f = A
-
--- the type of bound groups
-abbrev BoundGroupType : Type 0
-BoundGroupType = OkOf (bound_group_in [])
 
 -- ---- what is bound
 
