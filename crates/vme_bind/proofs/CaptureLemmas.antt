@@ -50,7 +50,7 @@ length-changed v [] = refl
 length-changed v (c ∷ cs) = length-changed (set_level v c.line c.level) cs ∙ length-set v.levels c.line c.level
 
 -- the change of the line `l` to its level by `g`
-abbrev to_level : (ℕ → Level) → ℕ → Change
+abbrev pub to_level : (ℕ → Level) → ℕ → Change
 to_level g l = record { line = l; level = g l }
 
 -- whether l, which isn't n, is below n + 1 is whether it is below n

@@ -30,7 +30,7 @@ use Rattle.vme_bind.specs.Capture.{levels_after, recording}
 use Rattle.vme_bind.specs.Recording.{differs, change_to, changes_between, step_between}
 use Rattle.vme_bind.proofs.RecorderLemmas.{those-yes, those-no, same_level-is, same_levels}
 use Rattle.vme_bind.proofs.CaptureLemmas.{level_at-changed_those, length-changed, level_at-levels_after}
-use Rattle.vme_bind.proofs.CaptureLemmas.{length-levels_after, slots-levels_after}
+use Rattle.vme_bind.proofs.CaptureLemmas.{length-levels_after, slots-levels_after, to_level}
 
 -- ---- the numbers below n for which p holds
 
@@ -176,10 +176,6 @@ are_changes-append v lowest (d ∷ cs) c h le below is =
     and-four (nat_le lowest d.line) (has_line v.slots d.line) (not (same_level (level_at v d.line) d.level))
     (are_changes v (d.line + 1) (cs ++ c ∷ []))
     parts.0 parts.1 parts.2 (are_changes-append v (d.line + 1) cs c parts.3 (omega (arith, below.0)) below.1 is)
-
--- the change of the line `l` to its level by `g`
-abbrev to_level : (ℕ → Level) → ℕ → Change
-to_level g l = record { line = l; level = g l }
 
 -- `cs` are changes from the levels `v`, by ascending line number, of lines below n
 record AreChanges (v : Levels) (n : ℕ) (cs : List Change) : Type 0 where
