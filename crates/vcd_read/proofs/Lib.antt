@@ -15,6 +15,7 @@ pub mod BodyFoldLemmas
 pub mod TimeLemmas
 pub mod DumpLemmas
 pub mod DefinedLemmas
+pub mod PrefixLemmas
 pub mod ScopesLemmas
 pub mod ReferenceLemmas
 pub mod SectionLemmas

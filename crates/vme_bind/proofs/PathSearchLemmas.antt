@@ -2,52 +2,37 @@
 -- says which variables have that path.
 use Rattle.std.proofs.Common.{◌≡◌, ℕ, ◌+◌, ◌<◌, ◌≤◌, eqb, Bool, true, false, cond, ◌&&◌, List, [], ◌∷◌, ◌++◌, length}
 use Rattle.std.proofs.Common.{get_or, take, drop, map, refl, sym, ap, ◌∙◌, add-zero, arith, append_assoc}
-use Rattle.std.specs.Prelude.{bytes_eq, min}
+use Rattle.std.specs.Prelude.{bytes_eq, min, nat_eq}
 use Rattle.std.specs.Bool.{Decides}
-use Rattle.std.specs.List.{All}
+use Rattle.std.specs.List.{All, starts_with}
 use Rattle.std.proofs.lemmas.Bool.Decides.{Decides-and, same_from_decides, nat_tests}
 use Rattle.std.proofs.Math.ListN.{set}
 use Rattle.std.proofs.lemmas.Grind.{drop_more_same}
-use Rattle.std.proofs.lemmas.List.{length-map, take_at, drop_at, take-append-drop, take_more, take_more_set, map-append}
+use Rattle.std.proofs.lemmas.List.{length-map, take_at, drop_at, take_more, take_more_set, map-append}
 use Rattle.std.proofs.lemmas.List.{get_or-drop, drop-set-lt}
 use Rattle.std.proofs.lemmas.List.Elements.{All-map}
 use Rattle.std.proofs.lemmas.Simd.{map-map}
 use Rattle.std.proofs.lemmas.Slice.Eq.{bytes_eq-Decides}
 use Rattle.vcd_read.specs.Header.{path_of}
 use Rattle.vcd_read.specs.Scopes.{with_dot, path_in}
+use Rattle.vcd_read.proofs.PrefixLemmas.{Begins, starts_with-Decides}
 use Rattle.vcd_read.proofs.ScopesLemmas.{path_of-some}
 use denote.Ref.{Bor}
 use Rattle.vme_bind.specs.declared.assignment.Assignment.{Assignment}
 use Rattle.vme_bind.specs.declared.path_search.PathSearch.{PathSearch}
-use Rattle.vme_bind.specs.PathSearch.{begins_with, scopes_matched, matched_after, path_to_find, HasOpened, opened}
-use Rattle.vme_bind.specs.PathSearch.{closed}
-use Rattle.vme_bind.specs.PathSearch.{Searched, found_in}
+use Rattle.vme_bind.specs.PathSearch.{HasOpened, Searched, closed, found_in, matched_after, opened, path_to_find}
+use Rattle.vme_bind.specs.PathSearch.{scopes_matched}
 
 -- ---- the prefix of a text
 
--- `text` is `front` and a rest
-abbrev Begins : List ℕ → List ℕ → Type 0
-Begins front text = (rest : List ℕ) × (text ≡ front ++ rest)
-
--- the test whether `text` begins with `front` decides whether it is `front` and a rest
-begins_with-Decides : (front text : List ℕ) → Decides (begins_with front text) (Begins front text)
-begins_with-Decides front text =
-    let same = bytes_eq-Decides (take (length front) text) front in (
-      λ e. (
-        drop (length front) text,
-        sym (take-append-drop (length front) text)
-            ∙ ap (λ (xs : List ℕ). xs ++ drop (length front) text) (same.0 e),
-      ),
-      λ h. same.1 (ap (take (length front)) h.1 ∙ take_at front h.0 (length front) refl),
-    )
-
 -- `text` begins with `front ++ part` exactly if it begins with `front` and its rest with `part`
-begins_with-Decides_append : (front part text : List ℕ) → Decides (begins_with front text && begins_with part
-    (drop (length front) text)) (Begins (front ++ part) text)
-begins_with-Decides_append front part text =
-    let both = Decides-and {P = Begins front text} {Q = Begins part (drop (length front) text)} (begins_with front text)
-    (begins_with part (drop (length front) text)) (begins_with-Decides front text)
-    (begins_with-Decides part (drop (length front) text)) in (
+starts_with-Decides_append : (front part text : List ℕ)
+    → Decides (starts_with nat_eq text front && starts_with nat_eq (drop (length front) text) part)
+    (Begins (front ++ part) text)
+starts_with-Decides_append front part text =
+    let both = Decides-and {P = Begins front text} {Q = Begins part (drop (length front) text)}
+    (starts_with nat_eq text front) (starts_with nat_eq (drop (length front) text) part)
+    (starts_with-Decides front text) (starts_with-Decides part (drop (length front) text)) in (
       λ e. let h = both.0 e in
           let rest_is : h.0.0 ≡ part ++ h.1.0 = sym (ap (drop (length front)) h.0.1 ∙ drop_at front h.0.0 (length front)
           refl) ∙ h.1.1 in
@@ -65,18 +50,19 @@ begins_with-Decides_append front part text =
     )
 
 -- a text begins with `front ++ part` exactly if it begins with `front`, and what follows with `part`
-pub begins_with-append : (front part text : List ℕ) → begins_with (front ++ part) text
-    ≡ (begins_with front text && begins_with part (drop (length front) text))
-begins_with-append front part text = same_from_decides (begins_with (front ++ part) text) (begins_with front text
-    && begins_with part (drop (length front) text)) (begins_with-Decides (front ++ part) text)
-    (begins_with-Decides_append front part text)
+pub starts_with-append : (front part text : List ℕ) → starts_with nat_eq text (front ++ part)
+    ≡ (starts_with nat_eq text front && starts_with nat_eq (drop (length front) text) part)
+starts_with-append front part text =
+    same_from_decides (starts_with nat_eq text (front ++ part))
+    (starts_with nat_eq text front && starts_with nat_eq (drop (length front) text) part)
+    (starts_with-Decides (front ++ part) text) (starts_with-Decides_append front part text)
 
 -- `text` is `front ++ name` exactly if it begins with `front` and its rest is `name`
-append-Decides : (front name text : List ℕ) → Decides (begins_with front text && bytes_eq (drop (length front) text)
-    name) (front ++ name ≡ text)
+append-Decides : (front name text : List ℕ)
+    → Decides (starts_with nat_eq text front && bytes_eq (drop (length front) text) name) (front ++ name ≡ text)
 append-Decides front name text =
-    let both = Decides-and {P = Begins front text} {Q = drop (length front) text ≡ name} (begins_with front text)
-    (bytes_eq (drop (length front) text) name) (begins_with-Decides front text)
+    let both = Decides-and {P = Begins front text} {Q = drop (length front) text ≡ name}
+    (starts_with nat_eq text front) (bytes_eq (drop (length front) text) name) (starts_with-Decides front text)
     (bytes_eq-Decides (drop (length front) text) name) in (
       λ e. let h = both.0 e in
           let rest_is : h.0.0 ≡ name = sym (ap (drop (length front)) h.0.1 ∙ drop_at front h.0.0 (length front) refl)
@@ -91,7 +77,7 @@ append-Decides front name text =
 matched_scopes-at_most : (path : List ℕ) (scopes : List (List ℕ)) → scopes_matched path scopes ≤ length scopes
 unfolding scopes_matched
 matched_scopes-at_most path [] = omega arith
-matched_scopes-at_most path (name ∷ scopes) = by_test (begins_with (path_in (name ∷ scopes)) path)
+matched_scopes-at_most path (name ∷ scopes) = by_test (starts_with nat_eq path (path_in (name ∷ scopes)))
     (matched_scopes-at_most path scopes)
   where
     by_test : (b : Bool) → scopes_matched path scopes ≤ length scopes → cond b (length scopes + 1)
@@ -101,10 +87,10 @@ matched_scopes-at_most path (name ∷ scopes) = by_test (begins_with (path_in (n
 
 -- a path begins with all of the scopes exactly where it begins with their path
 pub matched_scopes-all : (path : List ℕ) (scopes : List (List ℕ)) → eqb (scopes_matched path scopes) (length scopes)
-    ≡ begins_with (path_in scopes) path
+    ≡ starts_with nat_eq path (path_in scopes)
 unfolding scopes_matched path_in
 matched_scopes-all path [] = refl
-matched_scopes-all path (name ∷ scopes) = by_test (begins_with (path_in scopes ++ with_dot name) path)
+matched_scopes-all path (name ∷ scopes) = by_test (starts_with nat_eq path (path_in scopes ++ with_dot name))
     (matched_scopes-at_most path scopes)
   where
     by_test : (b : Bool) → scopes_matched path scopes ≤ length scopes
@@ -117,10 +103,10 @@ pub matched_scopes-open : (path name : List ℕ) (scopes : List (List ℕ)) → 
     (length (path_in scopes)) (with_dot name) path (scopes_matched path scopes) ≡ scopes_matched path (name ∷ scopes)
 unfolding scopes_matched path_in
 matched_scopes-open path name scopes =
-    ap (λ (b : Bool). cond (b && begins_with (with_dot name) (drop (length (path_in scopes)) path)) (length scopes + 1)
-    (scopes_matched path scopes)) (matched_scopes-all path scopes)
+    ap (λ (b : Bool). cond (b && starts_with nat_eq (drop (length (path_in scopes)) path) (with_dot name))
+    (length scopes + 1) (scopes_matched path scopes)) (matched_scopes-all path scopes)
     ∙ ap (λ (b : Bool). cond b (length scopes + 1) (scopes_matched path scopes))
-    (sym (begins_with-append (path_in scopes) (with_dot name) path))
+    (sym (starts_with-append (path_in scopes) (with_dot name) path))
 
 -- after the innermost scope is closed, the number of matched scopes is that before, or that of the scopes if this is
 -- less
@@ -128,9 +114,9 @@ pub matched_scopes-close : (path name : List ℕ) (scopes : List (List ℕ)) →
     (length scopes) ≡ scopes_matched path scopes
 unfolding scopes_matched path_in
 matched_scopes-close path name scopes =
-    by_tests (begins_with (path_in scopes ++ with_dot name) path) (begins_with (path_in scopes) path)
-    (begins_with (with_dot name) (drop (length (path_in scopes)) path))
-    (begins_with-append (path_in scopes) (with_dot name) path) (matched_scopes-all path scopes)
+    by_tests (starts_with nat_eq path (path_in scopes ++ with_dot name)) (starts_with nat_eq path (path_in scopes))
+    (starts_with nat_eq (drop (length (path_in scopes)) path) (with_dot name))
+    (starts_with-append (path_in scopes) (with_dot name) path) (matched_scopes-all path scopes)
     (matched_scopes-at_most path scopes)
   where
     by_tests : (b outer inner : Bool) → b ≡ (outer && inner) → eqb (scopes_matched path scopes) (length scopes) ≡ outer
@@ -146,7 +132,7 @@ pub bytes_eq-path_of : (path name : List ℕ) (scopes : List (List ℕ)) → 0 <
     && bytes_eq (drop (length (path_in scopes)) path) name)
 bytes_eq-path_of path name scopes some =
     ap (λ (p : List ℕ). bytes_eq p path) (path_of-some scopes name some)
-    ∙ same_from_decides (bytes_eq (path_in scopes ++ name) path) (begins_with (path_in scopes) path
+    ∙ same_from_decides (bytes_eq (path_in scopes ++ name) path) (starts_with nat_eq path (path_in scopes)
     && bytes_eq (drop (length (path_in scopes)) path) name) (bytes_eq-Decides (path_in scopes ++ name) path)
     (append-Decides (path_in scopes) name path)
     ∙ ap (λ (b : Bool). b && bytes_eq (drop (length (path_in scopes)) path) name) (sym (matched_scopes-all path scopes))

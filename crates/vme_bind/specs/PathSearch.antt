@@ -1,6 +1,7 @@
 -- What is found of the variables that a binding names, as they are declared one after the other.
-use Rattle.std.specs.Prelude.{◌≡◌, ℕ, ◌+◌, Bool, ◌&&◌, ◌==◌, if◌then◌else◌, List, [], ◌∷◌, length, map, min, take, drop}
-use Rattle.std.specs.Prelude.{bytes_eq, Option, Some, None, Result, Ok, Err}
+use Rattle.std.specs.Prelude.{◌≡◌, ℕ, ◌+◌, ◌&&◌, ◌==◌, if◌then◌else◌, List, [], ◌∷◌, length, map, min, drop, nat_eq}
+use Rattle.std.specs.Prelude.{Option, Some, None, Result, Ok, Err}
+use Rattle.std.specs.List.{starts_with}
 use Rattle.vcd_read.specs.declared.dump.Variable.{Variable}
 use Rattle.vcd_read.specs.Header.{◌>>=◌}
 use Rattle.vcd_read.specs.Scopes.{path_in}
@@ -81,10 +82,6 @@ bound_groups_of (s ∷ seen) = do
 
 -- ---- the open scopes that a path begins with
 
--- `text` begins with `front`
-abbrev pub begins_with : List ℕ → List ℕ → Bool
-begins_with front text = bytes_eq (take (length front) text) front
-
 -- the path to find; empty for a constant
 abbrev pub path_to_find : LevelSource → List ℕ
 path_to_find (Constant level) = []
@@ -93,8 +90,8 @@ path_to_find (Named named) = named.path
 -- the number of open scopes, from the outermost, that `path` begins with
 unfoldable pub scopes_matched : List ℕ → List (List ℕ) → ℕ
 scopes_matched path [] = 0
-scopes_matched path (name ∷ scopes) = if begins_with (path_in (name ∷ scopes)) path then length scopes
-    + 1 else scopes_matched path scopes
+scopes_matched path (name ∷ scopes) =
+    if starts_with nat_eq path (path_in (name ∷ scopes)) then length scopes + 1 else scopes_matched path scopes
 
 -- the search's `matched_scopes` is the number of the open `scopes` that its path begins with
 abbrev pub HasOpened : List (List ℕ) → PathSearch → Type 0
@@ -104,7 +101,7 @@ HasOpened scopes s = s.matched_scopes ≡ scopes_matched (path_to_find s.assignm
 -- from the offset `start` on.
 abbrev pub matched_after : ℕ → ℕ → List ℕ → List ℕ → ℕ → ℕ
 matched_after depth start part path matched_scopes = if matched_scopes == depth
-    && begins_with part (drop start path) then depth + 1 else matched_scopes
+    && starts_with nat_eq (drop start path) part then depth + 1 else matched_scopes
 
 -- a scope opens, with `depth` scopes open around it; `part` is what it adds to the path, from the offset `start` on
 abbrev pub opened : ℕ → ℕ → List ℕ → PathSearch → PathSearch

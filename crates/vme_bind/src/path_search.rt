@@ -4,7 +4,6 @@ ghost use Rattle.std.specs.Prelude.{◌≡◌, ◌<◌, ◌+◌, ◌^◌, drop, 
 ghost use Rattle.vcd_read.specs.Header.{variable_in};
 ghost use Rattle.vcd_read.specs.Scopes.{path_in};
 ghost use Rattle.vme_bind.specs.Answers.{BindGives};
-ghost use Rattle.vme_bind.specs.PathSearch.{begins_with};
 
 use crate::assignment::Assignment;
 use crate::bound_groups::{BitRange, BoundGroup, GroupSource};
@@ -53,16 +52,6 @@ impl PathMatch {
     }
 }
 
-/// Whether `text` begins with `front`.
-fn begins_with(text: &[u8], front: &[u8]) -> bool
-    ensures { result ≡ begins_with front.now text.now }
-{
-    match text.get(..front.len()) {
-        Some(start) => start == front,
-        None => false,
-    }
-}
-
 /// The rest of a text from the offset `start` on.
 pub(crate) fn rest_of(text: &[u8], start: usize) -> &[u8]
     ensures { result.now ≡ drop start text.now }
@@ -107,7 +96,7 @@ impl<'b> PathSearch<'b> {
         requires { depth + 1 < 2 ^ 64 }
         ensures { self.new ≡ opened depth start part.now self.old }
     {
-        if self.matched_scopes == depth && begins_with(rest_of(self.path(), start), part) {
+        if self.matched_scopes == depth && rest_of(self.path(), start).starts_with(part) {
             self.matched_scopes = depth + 1;
         }
     }

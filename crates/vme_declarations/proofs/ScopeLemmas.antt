@@ -5,12 +5,13 @@ use Rattle.std.proofs.Common.{append_assoc}
 use Rattle.std.specs.Prelude.{fold, bytes_eq, nat_eq}
 use Rattle.std.specs.Bool.{Decides}
 use Rattle.std.specs.List.{list_any, starts_with}
-use Rattle.std.proofs.lemmas.Bool.Decides.{Decides-and, Decides-eqb, same_from_decides}
+use Rattle.std.proofs.lemmas.Bool.Decides.{Decides-and, same_from_decides}
 use Rattle.std.proofs.lemmas.List.{drop_at, length-take-le, take-append-drop, take_at}
-use Rattle.std.proofs.lemmas.Slice.Eq.{bytes_eq-Decides, starts_is}
+use Rattle.std.proofs.lemmas.Slice.Eq.{bytes_eq-Decides}
 use Rattle.vcd_read.specs.declared.dump.Variable.{Variable}
 use Rattle.vcd_read.specs.Header.{variable_in}
 use Rattle.vcd_read.specs.Scopes.{path_in, with_dot}
+use Rattle.vcd_read.proofs.PrefixLemmas.{Begins, starts_with-Decides}
 use Rattle.vcd_read.proofs.ScopesLemmas.{path_of-some}
 use Rattle.vme_declarations.specs.Scopes.{ScopeSought, has_scope, path_begins, sought_in}
 
@@ -56,18 +57,6 @@ sought_in-next front name scopes net size index found now some is =
     (is ∙ ap (λ (path : List ℕ). found || starts_with nat_eq path front) (sym (path_of-some scopes name some)))
 
 -- ---- two texts that begin with a third
-
--- `text` is `front` and a rest
-abbrev Begins : List ℕ → List ℕ → Type 0
-Begins front text = (rest : List ℕ) × (text ≡ front ++ rest)
-
--- the test whether `text` begins with `front` decides whether it is `front` and a rest
-starts_with-Decides : (front text : List ℕ) → Decides (starts_with nat_eq text front) (Begins front text)
-starts_with-Decides front text =
-    let is = starts_is Decides-eqb text front (starts_with nat_eq text front) refl in (
-      λ e. (drop (length front) text, is.0 e),
-      λ h. is.1 h.0 h.1,
-    )
 
 -- where `first` is as long as `outer`, `outer ++ inner` begins with `first ++ second` exactly if its parts do so
 starts_with-Decides_parts : (outer inner first second : List ℕ) → length first ≡ length outer
