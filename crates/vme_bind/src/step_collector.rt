@@ -1,5 +1,7 @@
 //! A recording that is kept as it is made.
 
+ghost use Rattle.std.specs.Prelude.{◌≡◌, []};
+
 use std::alloc::{AllocError, Global};
 use vme_trace::{Lines, Step, StepVisitor};
 
@@ -10,6 +12,19 @@ pub struct StepCollector {
     pub opening: Lines,
     /// The steps so far, in their order.
     pub steps: Vec<Step>,
+}
+
+impl StepCollector {
+    /// A collector that has no step.
+    pub fn new(alloc: Global, opening: &Lines) -> StepCollector
+        ensures opening { result.opening ≡ opening.now }
+        ensures none { result.steps.items ≡ [] }
+    {
+        StepCollector {
+            opening: *opening,
+            steps: Vec::new(alloc),
+        }
+    }
 }
 
 impl StepVisitor for StepCollector {

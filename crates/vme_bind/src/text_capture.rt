@@ -110,11 +110,7 @@ impl Binding {
     pub fn capture_text(&self, alloc: Global, text: &[u8]) -> Result<Capture, CaptureFault>
         ensures { GivesBy (λ capture. capture) result (capture_of_text self.now text.now) }
     {
-        let kept = StepCollector {
-            opening: *self.lines(),
-            steps: Vec::new(alloc),
-        };
-        match self.record_text(alloc, text, kept) {
+        match self.record_text(alloc, text, StepCollector::new(alloc, self.lines())) {
             Ok(kept) => match captured(kept.opening, kept.steps) {
                 Ok(capture) => Ok(capture),
                 Err(fault) => Err(CaptureFault::Binding(fault)),

@@ -148,11 +148,7 @@ fn fits(
 fn finds_all(alloc: Global, binding: &Binding, front: &[u8]) -> Result<bool, AllocError>
     ensures { IfOk result (λ finds. finds ≡ true → finds_all binding.now (variables_in front.now) ≡ true) }
 {
-    let none = StepCollector {
-        opening: *binding.lines(),
-        steps: Vec::new(alloc),
-    };
-    match binding.begin_before_body(alloc, front, none) {
+    match binding.begin_before_body(alloc, front, StepCollector::new(alloc, binding.lines())) {
         Ok(Ok((text, _))) => Ok(has_none(text.binding_fault())),
         Ok(Err(_)) => Ok(false),
         Err(CaptureFault::Binding(fault)) => or_memory(fault.kind),

@@ -13,7 +13,6 @@ ghost use Rattle.vme_bind.specs.TextPieces.{text_reached};
 ghost use Rattle.vme_bind.specs.TextReading.{or_fault, reading_ahead, reading_of_text};
 ghost use Rattle.vme_step_reader.specs.StepReading.{whole_reading};
 
-use crate::pieces::none_taken;
 use crate::step_reader::StepReader;
 use std::alloc::Global;
 use vcd_read::whole_tokens;
@@ -68,7 +67,7 @@ fn begin_at(
     ensures unended { IfOk result (λ found. IfNone found ((fault : VcdFault)
         × (reading_of_text binding.now front.now ≡ Err (Dump fault)))) }
 {
-    match binding.begin_before_body(alloc, front, none_taken(alloc, binding.lines())) {
+    match binding.begin_before_body(alloc, front, StepCollector::new(alloc, binding.lines())) {
         Ok(Ok((text, left))) => match before_steps(text) {
             Ok(reader) => Ok(Some((reader, front.len() - left.len()))),
             Err(fault) => Err(fault),
@@ -128,7 +127,7 @@ fn unended(alloc: Global, binding: &Binding, text: &[u8]) -> CaptureFault
     requires { (fault : VcdFault) × (reading_of_text binding.now text.now ≡ Err (Dump fault)) }
     ensures { CaptureFailsBy result (reading_of_text binding.now text.now) }
 {
-    match binding.record_text(alloc, text, none_taken(alloc, binding.lines())) {
+    match binding.record_text(alloc, text, StepCollector::new(alloc, binding.lines())) {
         Ok(_) => unreachable!(),
         Err(fault) => fault,
     }

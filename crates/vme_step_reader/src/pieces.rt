@@ -33,17 +33,6 @@ fn steps_before(stopped: Stopped<StepCollector>) -> StoppedSteps
     }
 }
 
-/// A collector of steps that has none.
-pub(crate) fn none_taken(alloc: Global, opening: &Lines) -> StepCollector
-    ensures opening { result.opening ≡ opening.now }
-    ensures none { result.steps.items ≡ [] }
-{
-    StepCollector {
-        opening: *opening,
-        steps: Vec::new(alloc),
-    }
-}
-
 /// Reads a piece that ends after a space. Returns the next reader, and the steps that become complete by the piece.
 pub(crate) fn read_piece(
     alloc: Global,
@@ -59,7 +48,7 @@ pub(crate) fn read_piece(
         (reading_ahead (with_recording given speculative) (tokens_from speculative.body.line piece.now) more)) }
 {
     recorded_before_is_a_prefix();
-    let text = speculative.with_step_visitor(none_taken(alloc, opening));
+    let text = speculative.with_step_visitor(StepCollector::new(alloc, opening));
     match text.read_until_fault(alloc, piece) {
         Ok(text) => {
             let (speculative, taken) = text.into_speculative();
@@ -86,7 +75,7 @@ pub(crate) fn read_last_piece(
         (reading_ahead (with_recording given speculative) (tokens_from speculative.body.line piece.now) [])) }
 {
     recorded_before_is_a_prefix();
-    let text = speculative.with_step_visitor(none_taken(alloc, opening));
+    let text = speculative.with_step_visitor(StepCollector::new(alloc, opening));
     match text.read_until_fault(alloc, piece) {
         Ok(text) => match text.finish_or_stop(alloc) {
             Ok(taken) => Ok(taken.steps),

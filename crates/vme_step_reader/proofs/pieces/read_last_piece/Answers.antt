@@ -11,10 +11,10 @@ returns-in-Ok-finish_or_stop-clause-recorded c given =
     let w = c.args.speculative in
     let piece = c.args.piece.now in
     let end = c.in-Ok-finish_or_stop.taken in
-    let none : Trace = record { opening = c.none_taken.result.opening; steps = c.none_taken.result.steps.items } in
+    let none : Trace = record { opening = c.new.result.opening; steps = c.new.result.steps.items } in
     let read : Trace = record { opening = end.opening; steps = end.steps.items } in
     ap (λ (x : TextReading). x.recorded)
-    (reading_ahead-end_of_text c.recorded_before_is_a_prefix.ensures w none c.none_taken.ensures.none read _
+    (reading_ahead-end_of_text c.recorded_before_is_a_prefix.ensures w none c.new.ensures.none read _
     (tokens_from w.body.line piece) []
     (ap (λ (t : TextReached). reading_ahead t (tokens_from t.body.line piece) []) (sym c.with_step_visitor-text.ensures)
     ∙ c.in-Ok.ensures.rest [] ∙ c.in-Ok-finish_or_stop.ensures) given)
@@ -24,10 +24,10 @@ returns-in-Ok-finish_or_stop-clause-whole c given =
     let w = c.args.speculative in
     let piece = c.args.piece.now in
     let end = c.in-Ok-finish_or_stop.taken in
-    let none : Trace = record { opening = c.none_taken.result.opening; steps = c.none_taken.result.steps.items } in
+    let none : Trace = record { opening = c.new.result.opening; steps = c.new.result.steps.items } in
     let read : Trace = record { opening = end.opening; steps = end.steps.items } in
     ap (λ (x : TextReading). x.fault)
-    (reading_ahead-end_of_text c.recorded_before_is_a_prefix.ensures w none c.none_taken.ensures.none read _
+    (reading_ahead-end_of_text c.recorded_before_is_a_prefix.ensures w none c.new.ensures.none read _
     (tokens_from w.body.line piece) []
     (ap (λ (t : TextReached). reading_ahead t (tokens_from t.body.line piece) []) (sym c.with_step_visitor-text.ensures)
     ∙ c.in-Ok.ensures.rest [] ∙ c.in-Ok-finish_or_stop.ensures) given)
@@ -37,11 +37,11 @@ returns-in-Err-clause-stopped c given =
     let w = c.args.speculative in
     let piece = c.args.piece.now in
     let s = c.in-Err.stopped in
-    let none : Trace = record { opening = c.none_taken.result.opening; steps = c.none_taken.result.steps.items } in
+    let none : Trace = record { opening = c.new.result.opening; steps = c.new.result.steps.items } in
     let read : Trace = record { opening = s.visitor.opening; steps = s.visitor.steps.items } in
     let before = c.steps_before-in-Err.ensures in
     rw (before.fault, before.time, before.steps)
-    (StopsAs-piece c.recorded_before_is_a_prefix.ensures w none c.none_taken.ensures.none s.fault.line s.fault.kind read
+    (StopsAs-piece c.recorded_before_is_a_prefix.ensures w none c.new.ensures.none s.fault.line s.fault.kind read
     s.time (tokens_from w.body.line piece) given []
     (subst (λ (t : TextReached). StopsAs s.fault.line s.fault.kind read s.time
     (reading_ahead t (tokens_from t.body.line piece) [])) c.with_step_visitor-text.ensures (c.in-Err.ensures.rest [])))

@@ -17,12 +17,12 @@ pub returns-in-Ok-clause-rest : goal.returns-in-Ok-clause-rest
 returns-in-Ok-clause-rest c =
     let w = c.args.speculative in
     let piece = c.args.piece.now in
-    let none : Trace = record { opening = c.none_taken.result.opening; steps = c.none_taken.result.steps.items } in
+    let none : Trace = record { opening = c.new.result.opening; steps = c.new.result.steps.items } in
     let read : Trace = record {
       opening = c.into_speculative-speculative.result.1.opening;
       steps = c.into_speculative-speculative.result.1.steps.items;
     } in
-    reading_ahead-piece c.recorded_before_is_a_prefix.ensures w none c.none_taken.ensures.none
+    reading_ahead-piece c.recorded_before_is_a_prefix.ensures w none c.new.ensures.none
     c.into_speculative-speculative.result.0 read
     (tokens_from w.body.line piece)
     (λ more. ap (λ (t : TextReached). reading_ahead t (tokens_from t.body.line piece) more)
@@ -35,10 +35,10 @@ returns-in-Err-clause-stopped c given more =
     let w = c.args.speculative in
     let piece = c.args.piece.now in
     let s = c.in-Err.stopped in
-    let none : Trace = record { opening = c.none_taken.result.opening; steps = c.none_taken.result.steps.items } in
+    let none : Trace = record { opening = c.new.result.opening; steps = c.new.result.steps.items } in
     let read : Trace = record { opening = s.visitor.opening; steps = s.visitor.steps.items } in
     rw (c.steps_before.ensures.fault, c.steps_before.ensures.time, c.steps_before.ensures.steps)
-    (StopsAs-piece c.recorded_before_is_a_prefix.ensures w none c.none_taken.ensures.none s.fault.line s.fault.kind read
+    (StopsAs-piece c.recorded_before_is_a_prefix.ensures w none c.new.ensures.none s.fault.line s.fault.kind read
     s.time (tokens_from w.body.line piece) given more
     (subst (λ (t : TextReached). StopsAs s.fault.line s.fault.kind read s.time
     (reading_ahead t (tokens_from t.body.line piece) more)) c.with_step_visitor-text.ensures
