@@ -6,8 +6,7 @@ use Rattle.vcd_read.specs.declared.dump.Variable.{Variable}
 use Rattle.vcd_read.specs.declared.fault.FaultKind.{FaultKind}
 use Rattle.vcd_read.specs.declared.fault.FaultKind.TheVariants.{Memory}
 use Rattle.vcd_read.specs.declared.fault.VcdFault.{VcdFault}
-use Rattle.vcd_read.specs.Bodies.{ahead}
-use Rattle.vcd_read.specs.Body.{BodyPlace, ready}
+use Rattle.vcd_read.specs.Body.{ready}
 use Rattle.vcd_read.specs.Contents.{Contents}
 use Rattle.vcd_read.specs.DumpProgress.{values_from}
 use Rattle.vcd_read.specs.Fronts.{going_on}
@@ -15,7 +14,7 @@ use Rattle.vcd_read.specs.Header.{◌>>=◌, Net, nothing_declared}
 use Rattle.vcd_read.specs.Meaning.{ReadFails, ReadFailsAs, dump_of, instants_from}
 use Rattle.vcd_read.specs.Reached.{Reached, outcome_of, rest_of}
 use Rattle.vcd_read.specs.Sections.{Defined, Headed, defined, header_of}
-use Rattle.vcd_read.specs.BodyFold.{State, BodyFold, at_end, fold_body}
+use Rattle.vcd_read.specs.BodyFold.{State, at_end, fold_body}
 use Rattle.vcd_read.specs.Tokens.{Token, tokens}
 use Rattle.vcd_read.proofs.DefinedLemmas.{HasHeader-visited, dump_of-visited_fails, header_of-taken_head, taken_head}
 use Rattle.vcd_read.proofs.DumpLemmas.{contents_of_header, dump_of-whole_header, dump_of-header, whole_header}
@@ -130,26 +129,12 @@ module _ (text : List ℕ) (ts : List Token) (same : tokens text ≡ ts) where
 -- nothing of the body is read: `r` is at its start
 module _ (r : Reached (Option ℕ)) (head : Headed) (nets : r.nets ≡ head.nets)
     (progress : r.progress ≡ record { accumulator = None; time = 0; has_instant = false })
-    (dump_section : r.dump_section
-    ≡ None)
-    (place : r.place ≡ ready) where
-  -- how far a body is read at its start
-  abbrev none_read : BodyFold (Option ℕ)
-  none_read = record { accumulator = None; time = 0; has_instant = false }
-
-  -- what the body, and then `more`, give from this state on, at their end
-  abbrev come_from : List Token → List Net → BodyFold (Option ℕ) → Option ℕ → BodyPlace → Result (Option ℕ) VcdFault
-  come_from more n p b l = ahead first_time_kept first_time_or n p b l head.body more >>= at_end first_time_or
-
+    (dump_section : r.dump_section ≡ None) (place : r.place ≡ ready) where
   -- to read the body and `more` from its start on is the fold over both
   rest_of-unread : (more : List Token) → (rest_of first_time_kept first_time_or r head.body more >>= at_end
       first_time_or)
       ≡ fold_body first_time_kept first_time_or head.nets None (head.body ++ more)
-  rest_of-unread more =
-      ap (λ (n : List Net). come_from more n r.progress r.dump_section r.place) nets
-      ∙ ap (λ (p : BodyFold (Option ℕ)). come_from more head.nets p r.dump_section r.place) progress
-      ∙ ap (λ (b : Option ℕ). come_from more head.nets none_read b r.place) dump_section
-      ∙ ap (λ (l : BodyPlace). come_from more head.nets none_read None l) place
+  rest_of-unread more = rw (nets, progress, dump_section, place) refl
 
   module _ (text : List ℕ) (ts more : List Token) (same : tokens text ≡ ts ++ more)
       (is : header_of without_variables text (nothing_declared tt) (ts ++ more) ≡ Ok (defined (going_on head more) tt))
