@@ -10,6 +10,7 @@ pub mod LineBitLemmas
 pub mod EndLemmas
 pub mod OpeningLemmas
 pub mod BuilderLemmas
+pub mod BeginningLemmas
 pub mod TextCaptureLemmas
 pub mod TextPieceLemmas
 pub mod TextReadingLemmas

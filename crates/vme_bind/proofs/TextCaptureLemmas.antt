@@ -21,8 +21,6 @@ use Rattle.vcd_read.specs.Meaning.{ReadFails, ReadFailsAs, dump_of, instants_fro
 use Rattle.vcd_read.specs.BodyFold.{fold_body}
 use Rattle.vcd_read.proofs.ReadLemmas.{TimesAscend-instants_from}
 use Rattle.vcd_read.proofs.DumpLemmas.{contents_of_header, with_variables, whole_header, dump_of-header}
-use Rattle.vcd_read.proofs.DumpLemmas.{dump_of-whole_header}
-use Rattle.vcd_read.proofs.DefinedLemmas.{HasHeader-visited, dump_of-visited_fails}
 use Rattle.vcd_read.proofs.CurrentValues.{CurrentValues}
 use Rattle.vcd_read.proofs.BodyFoldLemmas.{Ends, Follows, Follows-fold_body, ReadFails-followed, ok-followed}
 use Rattle.vme_bind.specs.declared.fault.BindFault.{BindFault}
@@ -41,6 +39,7 @@ use Rattle.vme_bind.specs.TextCapture.{or_binding, or_dump, body_recording, capt
 use Rattle.vme_bind.specs.TextCapture.{recording_read, recording_after, recording_of_text, DumpFails, BindingFails}
 use Rattle.vme_bind.specs.TextCapture.{CaptureFailsBy, GivesBy}
 use Rattle.vme_bind.specs.TextPieces.{body_outcome, outcome}
+use Rattle.vme_bind.proofs.BeginningLemmas.{comes_of-after_header}
 use Rattle.vme_bind.proofs.OpeningLemmas.{capture_of-is, recording_of-is, recording-formed}
 use Rattle.vme_bind.proofs.BuilderLemmas.{Makes, makes-first, makes-change, makes-instant}
 
@@ -142,24 +141,16 @@ module _ (slots : ℕ) (bound_groups : List BoundGroup) (h : Headed) where
 
 -- ---- a text
 
--- a fault of reading the text is the fault of its recording
-pub recording_of_text-dump_fails : (b : BoundLines) (text : List ℕ) (fault : VcdFault) → ReadFails fault (dump_of text)
-    → CaptureFailsBy (Dump fault) (recording_of_text b text)
+-- the recording of a text is made of what its definitions are
+pub recording_of_text-header : (b : BoundLines) (text : List ℕ)
+    → recording_of_text b text ≡ (or_dump (whole_header text) >>= recording_after b)
 unfolding recording_of_text
-recording_of_text-dump_fails b text fault h = by_kind fault.line fault.kind h
+recording_of_text-header b text = ap (recording_read b) (dump_of-header text) ∙ by_header (whole_header text)
   where
-    by_kind : (line : ℕ) (kind : FaultKind) → ReadFails (record { line = line; kind = kind }) (dump_of text)
-        → DumpFails line kind (recording_of_text b text)
-    by_kind line Memory e = e
-    by_kind line kind e = ap (recording_read b) e
-
--- a fault of the definitions is the fault of the text's recording
-pub recording_of_text-header_fails : (b : BoundLines) (text : List ℕ) (seen : List Searched) (fault : VcdFault)
-    → ReadFails fault
-    (header_of with_variable text (nothing_declared seen) (tokens text)) → CaptureFailsBy (Dump fault)
-    (recording_of_text b text)
-recording_of_text-header_fails b text seen fault h =
-    recording_of_text-dump_fails b text fault (dump_of-visited_fails with_variable fault text seen h)
+    by_header : (r : Result (Defined (List Variable)) VcdFault)
+        → recording_read b (r >>= contents_of_header) ≡ (or_dump r >>= recording_after b)
+    by_header (Ok d) = refl
+    by_header (Err fault) = refl
 
 -- what a function gives for the body after the definitions, it gives for the whole text
 pub GivesBy-recording_of_text : {X : Type 0} (view : X → Trace) (b : BoundLines) (text : List ℕ) (h : Headed)
@@ -167,22 +158,10 @@ pub GivesBy-recording_of_text : {X : Type 0} (view : X → Trace) (b : BoundLine
     (tokens text) ≡ Ok (defined h seen)
     → ((variables : List Variable) → seen ≡ fold with_variable first variables
     → GivesBy view r (recording_after b (defined h variables))) → GivesBy view r (recording_of_text b text)
-unfolding recording_of_text
 GivesBy-recording_of_text view b text h first seen r head given =
-    let whole = HasHeader-visited with_variable text h first seen head in
-    subst (λ (d : Result Contents VcdFault). GivesBy view r (recording_read b d))
-    (sym (dump_of-whole_header text (defined h whole.0) whole.1)) (given whole.0 whole.2)
-
--- the recording of a text is that of the body after its definitions
-pub recording_of_text-after_header : (b : BoundLines) (text : List ℕ) (h : Headed) (first seen : List Searched)
-    → header_of with_variable text
-    (nothing_declared first) (tokens text) ≡ Ok (defined h seen)
-    → (variables : List Variable) × (seen ≡ fold with_variable first variables)
-    × (recording_of_text b text ≡ recording_after b (defined h variables))
-unfolding recording_of_text
-recording_of_text-after_header b text h first seen head =
-    let whole = HasHeader-visited with_variable text h first seen head in
-    (whole.0, whole.2, ap (recording_read b) (dump_of-whole_header text (defined h whole.0) whole.1))
+    let whole = comes_of-after_header (recording_of_text b) (recording_after b) (recording_of_text-header b) text h
+    first seen head in
+    subst (GivesBy view r) (sym whole.2) (given whole.0 whole.1)
 
 -- where the binding fits, the recording of the instants is that of the bound groups, or the fault of the dump
 pub recording_read-bound : (b : BoundLines) (variables : List Variable) (bound_groups : List BoundGroup)

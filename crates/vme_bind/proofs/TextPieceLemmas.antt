@@ -3,16 +3,16 @@
 use Rattle.std.proofs.Common.{◌≡◌, ℕ, false, List, Option, Some, None, Result, Ok, Err, refl, sym, ap, subst, ◌∙◌}
 use Rattle.vme_trace.specs.Trace.{Trace}
 use Rattle.vcd_read.specs.Body.{ready}
-use Rattle.vcd_read.specs.Fronts.{IsMetAtTheEnd, going_on}
-use Rattle.vcd_read.specs.Header.{◌>>=◌, nothing_declared}
+use Rattle.vcd_read.specs.Fronts.{going_on}
+use Rattle.vcd_read.specs.Header.{◌>>=◌}
 use Rattle.vcd_read.specs.Meaning.{ReadFails, ReadFailsAs, instants_from}
-use Rattle.vcd_read.specs.Sections.{Headed, defined, header_of}
+use Rattle.vcd_read.specs.Sections.{Headed, defined}
 use Rattle.vcd_read.specs.Reached.{Reached, rest_of}
 use Rattle.vcd_read.specs.BodyFold.{State, at_end}
-use Rattle.vcd_read.specs.Tokens.{Token, tokens}
+use Rattle.vcd_read.specs.Tokens.{Token}
 use Rattle.vcd_read.specs.declared.dump.Variable.{Variable}
 use Rattle.vcd_read.specs.declared.fault.FaultKind.{FaultKind}
-use Rattle.vcd_read.specs.declared.fault.FaultKind.TheVariants.{Memory, NoEndDefinitions, UnfinishedSection}
+use Rattle.vcd_read.specs.declared.fault.FaultKind.TheVariants.{Memory}
 use Rattle.vcd_read.specs.declared.fault.VcdFault.{VcdFault}
 use Rattle.vme_bind.specs.declared.fault.BindFault.{BindFault}
 use Rattle.vme_bind.specs.declared.fault.BindFaultKind.{BindFaultKind}
@@ -23,13 +23,10 @@ use Rattle.vme_bind.specs.BuilderState.{IsBegun, BuilderState, builder_change, b
 use Rattle.vme_bind.specs.declared.bound_groups.BoundGroup.{BoundGroup}
 use Rattle.vme_bind.specs.Answers.{BindFails as BindFails, BindFailsAs as BindFailsAs}
 use Rattle.vme_bind.specs.Binding.{BoundLines}
-use Rattle.vme_bind.specs.PathSearch.{Searched, with_variable}
 use Rattle.vme_bind.specs.BoundGroups.{bound_groups_in}
 use Rattle.vme_bind.specs.TextCapture.{CaptureFailsBy, DumpFails, BindingFails, IsOfBinding, recording_after}
-use Rattle.vme_bind.specs.TextCapture.{recording_of_text}
 use Rattle.vme_bind.specs.TextPieces.{TextContinuesAs, body_outcome, outcome}
 use Rattle.vme_bind.proofs.TextCaptureLemmas.{body_outcome-outcome, recording_read-bound, recording_read-refused}
-use Rattle.vme_bind.proofs.TextCaptureLemmas.{recording_of_text-header_fails}
 
 -- a fault of the dump comes first, whatever the binding has
 outcome-dump_fails : (binding_fault : Option BindFault) (line : ℕ) (kind : FaultKind)
@@ -142,20 +139,3 @@ CaptureFailsBy-at_end binding_fault fault read fails = by_kind binding_fault fau
     by_kind binding_fault line Memory fails = fails
     by_kind None line kind fails = ap (outcome None) fails
     by_kind (Some fault) line kind fails = ap (outcome (Some fault)) fails
-
--- ---- a prefix in which the definitions don't end
-
--- definitions that don't end in `front` are a fault of the dump `front`
-pub recording_of_text-unfinished : (b : BoundLines) (front : List ℕ) (seen : List Searched) (fault : VcdFault)
-    → header_of with_variable front (nothing_declared seen) (tokens front) ≡ Err fault
-    → IsMetAtTheEnd fault.kind → recording_of_text b front ≡ Err (Dump fault)
-recording_of_text-unfinished b front seen fault is met = by_kind fault.line fault.kind is met
-  where
-    by_kind : (line : ℕ) (kind : FaultKind) → header_of with_variable front (nothing_declared seen) (tokens front)
-        ≡ Err (record { line = line; kind = kind })
-        → IsMetAtTheEnd kind → recording_of_text b front ≡ Err (Dump (record { line = line; kind = kind }))
-    by_kind line NoEndDefinitions is met =
-        recording_of_text-header_fails b front seen (record { line = line; kind = NoEndDefinitions }) is
-    by_kind line UnfinishedSection is met =
-        recording_of_text-header_fails b front seen (record { line = line; kind = UnfinishedSection }) is
-    by_kind line kind is met = absurd met

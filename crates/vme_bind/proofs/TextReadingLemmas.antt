@@ -3,42 +3,38 @@
 use Rattle.std.proofs.Common.{◌≡◌, ℕ, ◌-◌, List, [], length, false, Option, None, Result, Ok, Err, refl}
 use Rattle.std.proofs.Common.{sym}
 use Rattle.std.proofs.Common.{ap, ◌∙◌, ◌++◌, arith, subst}
-use Rattle.std.specs.List.{fold}
 use Rattle.std.proofs.lemmas.List.{append-nil}
 use Rattle.vme_trace.specs.Trace.{Trace}
 use Rattle.vme_trace.specs.WellFormed.{malformed_step}
 use Rattle.vcd_read.specs.Body.{BodyItem, BodyPlace, ready, code_of_vector, code_of_foreign, in_comment, body_from}
 use Rattle.vcd_read.specs.Bodies.{StoppedAs, UntilFault, until_fault}
-use Rattle.vcd_read.specs.Fronts.{IsMetAtTheEnd, going_on}
-use Rattle.vcd_read.specs.Header.{◌>>=◌, Net, nothing_declared}
-use Rattle.vcd_read.specs.Meaning.{ReadFails, ReadFailsAs, instants_before_fault, instants_from}
+use Rattle.vcd_read.specs.Fronts.{going_on}
+use Rattle.vcd_read.specs.Header.{◌>>=◌, Net}
+use Rattle.vcd_read.specs.Meaning.{instants_before_fault, instants_from}
 use Rattle.vcd_read.specs.Meaning.{last_time_before_fault}
 use Rattle.vcd_read.specs.Reached.{Reached, rest_until_fault}
-use Rattle.vcd_read.specs.Sections.{Headed, Defined, defined, header_of}
+use Rattle.vcd_read.specs.Sections.{Headed, defined}
 use Rattle.vcd_read.specs.BodyFold.{State, BodyFold, at_end, at_first, reached_before, state_at, fold_body}
 use Rattle.vcd_read.specs.Tokens.{Token, tokens}
 use Rattle.vcd_read.specs.declared.dump.Instant.{Instant}
 use Rattle.vcd_read.specs.declared.dump.Variable.{Variable}
 use Rattle.vcd_read.specs.declared.fault.FaultKind.{FaultKind}
-use Rattle.vcd_read.specs.declared.fault.FaultKind.TheVariants.{Memory, NoEndDefinitions, UnfinishedSection}
+use Rattle.vcd_read.specs.declared.fault.FaultKind.TheVariants.{Memory}
 use Rattle.vcd_read.specs.declared.fault.VcdFault.{VcdFault}
 use Rattle.vcd_read.proofs.BeforeFaultLemmas.{instants_of-before_fault, TimesAscend-before_fault}
 use Rattle.vcd_read.proofs.DumpLemmas.{whole_header}
-use Rattle.vcd_read.proofs.DefinedLemmas.{HasHeader-visited, ReadFails-visited}
 use Rattle.vcd_read.proofs.InstantsLaw.{at_start}
 use Rattle.vcd_read.proofs.BodyFoldLemmas.{Ends, ok-followed, KeepsBefore-reached_before}
 use Rattle.vcd_read.proofs.ReadLemmas.{TimesAscend-instants_from}
 use Rattle.vcd_read.proofs.TimeLemmas.{time-reached_before}
 use Rattle.vme_bind.specs.declared.bound_groups.BoundGroup.{BoundGroup}
 use Rattle.vme_bind.specs.declared.fault.BindFault.{BindFault}
-use Rattle.vme_bind.specs.declared.fault.CaptureFault.{CaptureFault}
-use Rattle.vme_bind.specs.declared.fault.CaptureFault.TheVariants.{Dump, Binding}
+use Rattle.vme_bind.specs.declared.fault.CaptureFault.TheVariants.{Binding}
 use Rattle.vme_bind.specs.Binding.{BoundLines}
 use Rattle.vme_bind.specs.BoundGroups.{bound_groups_in}
 use Rattle.vme_bind.specs.Capture.{recording}
 use Rattle.vme_bind.specs.BuilderState.{IsBegun, BuilderState, builder_change, builder_instant}
-use Rattle.vme_bind.specs.PathSearch.{Searched, with_variable}
-use Rattle.vme_bind.specs.TextCapture.{CaptureFailsBy, DumpFails, or_binding, or_dump}
+use Rattle.vme_bind.specs.TextCapture.{or_binding, or_dump}
 use Rattle.vme_bind.specs.TextReading.{StopsAs, TextReading, body_reading, or_fault, reading_after, reading_by}
 use Rattle.vme_bind.specs.TextReading.{reading_made, reading_of_text, reading_until_fault}
 use Rattle.vme_bind.proofs.StepsLemmas.{malformed_step-recording}
@@ -231,48 +227,8 @@ pub reading_after-refused : (b : BoundLines) (h : Headed) (variables : List Vari
 reading_after-refused b h variables binding_fault e = ap (λ (r : Result (List BoundGroup) BindFault). or_binding r
     >>= λ bound_groups. Ok (body_reading b.slots bound_groups h)) e
 
--- the reading of a text, from the result of reading its definitions
-abbrev read_of : BoundLines → Result (Defined (List Variable)) VcdFault → Result TextReading CaptureFault
-read_of b r = or_dump r >>= reading_after b
-
--- a fault of the definitions is the fault of the reading
-pub reading_of_text-header_fails : (b : BoundLines) (text : List ℕ) (seen : List Searched) (fault : VcdFault)
-    → ReadFails fault
-    (header_of with_variable text (nothing_declared seen) (tokens text)) → CaptureFailsBy (Dump fault)
-    (reading_of_text b text)
+-- the reading of a text is made of what its definitions are
+pub reading_of_text-header : (b : BoundLines) (text : List ℕ)
+    → reading_of_text b text ≡ (or_dump (whole_header text) >>= reading_after b)
 unfolding reading_of_text
-reading_of_text-header_fails b text seen fault h =
-    by_kind fault.line fault.kind
-    (ReadFails-visited with_variable fault text seen h)
-  where
-    by_kind : (line : ℕ) (kind : FaultKind) → ReadFailsAs line kind (whole_header text) → DumpFails line kind
-        (reading_of_text b text)
-    by_kind line Memory e = e
-    by_kind line kind e = ap (read_of b) e
-
--- definitions that don't end in `front` are a fault of the dump `front`
-pub reading_of_text-unfinished : (b : BoundLines) (front : List ℕ) (seen : List Searched) (fault : VcdFault)
-    → header_of with_variable front (nothing_declared seen) (tokens front) ≡ Err fault
-    → IsMetAtTheEnd fault.kind → reading_of_text b front ≡ Err (Dump fault)
-reading_of_text-unfinished b front seen fault is met = by_kind fault.line fault.kind is met
-  where
-    by_kind : (line : ℕ) (kind : FaultKind) → header_of with_variable front (nothing_declared seen) (tokens front)
-        ≡ Err (record { line = line; kind = kind })
-        → IsMetAtTheEnd kind → reading_of_text b front ≡ Err (Dump (record { line = line; kind = kind }))
-    by_kind line NoEndDefinitions is met =
-        reading_of_text-header_fails b front seen (record { line = line; kind = NoEndDefinitions }) is
-    by_kind line UnfinishedSection is met =
-        reading_of_text-header_fails b front seen (record { line = line; kind = UnfinishedSection })
-        is
-    by_kind line kind is met = absurd met
-
--- the reading of a text is that of the body after its definitions
-pub reading_of_text-after_header : (b : BoundLines) (text : List ℕ) (h : Headed) (first seen : List Searched)
-    → header_of with_variable
-    text (nothing_declared first) (tokens text) ≡ Ok (defined h seen)
-    → (variables : List Variable) × (seen ≡ fold with_variable first variables)
-    × (reading_of_text b text ≡ reading_after b (defined h variables))
-unfolding reading_of_text
-reading_of_text-after_header b text h first seen head =
-    let whole = HasHeader-visited with_variable text h first seen head in
-    (whole.0, whole.2, ap (read_of b) whole.1)
+reading_of_text-header b text = refl

@@ -1,6 +1,8 @@
 use Rattle.std.proofs.Common.{rules, map}
 use Rattle.vme_bind.specs.PathSearch.{found_in, none_found}
-use Rattle.vme_bind.proofs.TextCaptureLemmas.{recording_of_text-header_fails, GivesBy-recording_of_text, GivesBy-formed}
+use Rattle.vme_bind.specs.TextCapture.{recording_after, recording_of_text}
+use Rattle.vme_bind.proofs.BeginningLemmas.{CaptureFailsBy-header}
+use Rattle.vme_bind.proofs.TextCaptureLemmas.{recording_of_text-header, GivesBy-recording_of_text, GivesBy-formed}
 use Rattle.vme_bind.proofs.binding.Binding.record_text.Goals as goal
 
 pub returns-in-Err : goal.returns-in-Err
@@ -18,9 +20,10 @@ returns-in-Ok-read_definitions g c =
 
 pub returns-in-Err-read_definitions : goal.returns-in-Err-read_definitions
 returns-in-Err-read_definitions g c =
+    let b = c.args.self.now in
     let fails = rw (c.in-Ok.ensures.seen, c.assignments.ensures) at c.in-Err-read_definitions.ensures in
     record {
-      gives = recording_of_text-header_fails c.args.self.now c.args.text.now
-          (map none_found c.args.self.now.assignments) c.in-Err-read_definitions.fault fails;
+      gives = CaptureFailsBy-header (recording_of_text b) (recording_after b) (recording_of_text-header b)
+          c.args.text.now (map none_found b.assignments) c.in-Err-read_definitions.fault fails;
       formed = tt;
     }
