@@ -4,6 +4,7 @@ use Rattle.std.specs.Prelude.{option_map, unwrap_or, Result, Ok, Err}
 use Rattle.vcd_read.specs.declared.dump.Bit.{Bit}
 use Rattle.vcd_read.specs.declared.fault.VcdFault.{VcdFault}
 use Rattle.vcd_read.specs.declared.timed_visitor.Clock.{Clock}
+use Rattle.vcd_read.specs.declared.timed_visitor.TimedVisitor.{TimedVisitor}
 use Rattle.vcd_read.specs.Tokens.{Token}
 use Rattle.vcd_read.specs.Numbers.{number, extended}
 use Rattle.vcd_read.specs.Reading.{line_of}
@@ -22,6 +23,10 @@ pub record BodyFold (A : Type 0) : Type 0 where
 -- an accumulator, with the time of a clock
 abbrev pub body_fold : {A : Type 0} → A → Clock → BodyFold A
 body_fold a clock = record { accumulator = a; time = clock.time; has_instant = clock.has_instant }
+
+-- what a visitor has taken, with the current time
+abbrev pub progress_of : {T A : Type 0} → (T → A) → TimedVisitor T → BodyFold A
+progress_of taken timed = body_fold (taken timed.visitor) timed.clock
 
 -- how far a body is read: the time and the open dump section, and the fold over the items so far
 pub record State (A : Type 0) : Type 0 where

@@ -7,7 +7,7 @@ use Rattle.vcd_read.specs.Numbers.{number}
 use Rattle.vcd_read.specs.Reading.{line_behind}
 use Rattle.vcd_read.specs.Header.{Net}
 use Rattle.vcd_read.specs.Body.{BodyItem, time_item, ready, body_from}
-use Rattle.vcd_read.specs.BodyFold.{BodyFold, State, body_fold, state_at, steps}
+use Rattle.vcd_read.specs.BodyFold.{BodyFold, State, progress_of, state_at, steps}
 use Rattle.vcd_read.specs.Reached.{Reached}
 
 -- The result of reading a piece as if between two items, outside of dump sections, at the time that it begins with.
@@ -28,7 +28,7 @@ read_detached taken a =
     record {
       time = a.time;
       first_line = a.first_line;
-      progress = body_fold (taken a.timed.visitor) a.timed.clock;
+      progress = progress_of taken a.timed;
       dump_section = a.dump_section;
       line = a.line;
     }

@@ -16,6 +16,7 @@ pub mod CodeNumbers
 pub mod CodeIndexes
 pub mod Shapes
 pub mod Bodies
+pub mod BodyPieces
 pub mod Reached
 pub mod DetachedPieces
 pub mod Scopes

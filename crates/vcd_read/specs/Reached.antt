@@ -6,7 +6,7 @@ use Rattle.vcd_read.specs.declared.pieces.BodyReader.{BodyReader}
 use Rattle.vcd_read.specs.Tokens.{Token}
 use Rattle.vcd_read.specs.Header.{Net}
 use Rattle.vcd_read.specs.Body.{BodyPlace}
-use Rattle.vcd_read.specs.BodyFold.{BodyFold, State, body_fold}
+use Rattle.vcd_read.specs.BodyFold.{BodyFold, State, progress_of}
 use Rattle.vcd_read.specs.Bodies.{UntilFault, ahead, ahead_until_fault, finished, place_of}
 
 -- How far a body is read: what was taken of it, and where reading continues.
@@ -24,7 +24,7 @@ abbrev pub reached : {T A : Type 0} → (T → A) → BodyReader T → Reached A
 reached taken p =
     record {
       nets = p.codes;
-      progress = body_fold (taken p.state.timed.visitor) p.state.timed.clock;
+      progress = progress_of taken p.state.timed;
       dump_section = p.state.dump_section;
       place = place_of p.state.place;
       line = p.line;

@@ -1,20 +1,15 @@
 //! The body: times, changes and dump sections.
 
-ghost use Rattle.std.specs.Prelude.{◌≡◌, ℕ, List, [], ◌<◌, ◌≤◌, length, slice_index, option_map, Ok, OnOk, IfOk, true};
-ghost use Rattle.std.specs.Prelude.{false};
+ghost use Rattle.std.specs.Prelude.{◌≡◌, ℕ, List, [], ◌<◌, ◌≤◌, length, option_map, Ok, OnOk, IfOk, true, false};
 ghost use Rattle.std.specs.Option.{ForSome};
-ghost use Rattle.vcd_read.specs.Tokens.{is_space};
 ghost use Rattle.vcd_read.specs.Numbers.{time_of};
 ghost use Rattle.vcd_read.specs.Reading.{IsStart, left_at, line_of};
 ghost use Rattle.vcd_read.specs.declared.body_piece.BodyPiece.{BodyPiece};
 ghost use Rattle.vcd_read.specs.Body.{time_item, change, skipped, dump_section_open, dump_section_end, ready};
-ghost use Rattle.vcd_read.specs.Body.{code_of_vector};
-ghost use Rattle.vcd_read.specs.Body.{code_of_foreign, in_comment};
-ghost use Rattle.vcd_read.specs.BodyFold.{body_fold, state_of, step};
-ghost use Rattle.vcd_read.specs.Bodies.{BodyContinuesTo, BodyContinuesAs, ContinuesOrStops, KeepsTaken, ahead};
-ghost use Rattle.vcd_read.specs.Bodies.{place_of};
-ghost use Rattle.vcd_read.specs.Bodies.{ahead_until_fault, remaining_in, from_token};
-ghost use Rattle.vcd_read.specs.Meaning.{ReadGives};
+ghost use Rattle.vcd_read.specs.Body.{code_of_vector, code_of_foreign, in_comment};
+ghost use Rattle.vcd_read.specs.BodyFold.{progress_of};
+ghost use Rattle.vcd_read.specs.Bodies.{BodyContinuesTo, ContinuesOrStops, KeepsTaken, ahead, ahead_until_fault};
+ghost use Rattle.vcd_read.specs.Bodies.{from_token, place_of};
 ghost use Rattle.vcd_read.specs.declared.open_item.OpenItem.TheVariants.{Ready};
 
 use crate::body_piece::Start;
@@ -44,6 +39,8 @@ pub(crate) struct Body<'a, 'c, T: ChangeVisitor> {
 }
 
 impl<'a, 'c, T: ChangeVisitor> Body<'a, 'c, T> {
+    ghost use Rattle.vcd_read.specs.BodyPieces.{ContinuesIn, StepsTo, rest_in};
+
     // Each of these reads one item, or begins it, and answers whether another may follow in the piece.
 
     /// Reads one item, if there is one left.
@@ -54,12 +51,9 @@ impl<'a, 'c, T: ChangeVisitor> Body<'a, 'c, T> {
         ensures moves { result ≡ Ok true → self.old.reader.at < self.new.reader.at }
         ensures between { result ≡ Ok true → self.new.place ≡ Ready }
         ensures end { result ≡ Ok false → left_at self.new.reader.text self.new.reader.at ≡ [] }
-        ensures rest { BodyContinuesAs
-            (remaining_in T.with_change T.with_instant (place_of self.old.place) self.old.codes.now self.old.reader
-            (body_fold (T.taken self.old.timed.visitor) self.old.timed.clock) self.old.dump_section)
-            (remaining_in T.with_change T.with_instant (place_of self.new.place) self.new.codes.now self.new.reader
-            (body_fold (T.taken self.new.timed.visitor) self.new.timed.clock) self.new.dump_section)
-            (T.taken self.new.timed.visitor) self.new.timed.clock.time result }
+        ensures rest { ContinuesIn T.with_change T.with_instant T.taken
+            (rest_in T.with_change T.with_instant T.taken self.old (place_of self.old.place) self.old.reader)
+            self.new (place_of self.new.place) self.new.reader result }
     {
         if !self.reader.finds_token() {
             return Ok(false);
@@ -78,12 +72,9 @@ impl<'a, 'c, T: ChangeVisitor> Body<'a, 'c, T> {
         ensures text { self.new.reader.text ≡ self.old.reader.text }
         ensures forward { OnOk result (self.old.reader.at ≤ self.new.reader.at) }
         ensures between { self.new.place ≡ Ready }
-        ensures rest { BodyContinuesAs
-            (remaining_in T.with_change T.with_instant ready self.old.codes.now self.old.reader
-            (body_fold (T.taken self.old.timed.visitor) self.old.timed.clock) self.old.dump_section)
-            (remaining_in T.with_change T.with_instant ready self.new.codes.now self.new.reader
-            (body_fold (T.taken self.new.timed.visitor) self.new.timed.clock) self.new.dump_section)
-            (T.taken self.new.timed.visitor) self.new.timed.clock.time result }
+        ensures rest { ContinuesIn T.with_change T.with_instant T.taken
+            (rest_in T.with_change T.with_instant T.taken self.old ready self.old.reader)
+            self.new ready self.new.reader result }
     {
         let mut reader = self.reader.again();
         while self.short_item(alloc, &mut reader)? {}
@@ -101,12 +92,8 @@ impl<'a, 'c, T: ChangeVisitor> Body<'a, 'c, T> {
         ensures text { reader.new.text ≡ reader.old.text }
         ensures forward { IfOk result (λ _. reader.old.at ≤ reader.new.at) }
         ensures moves { result ≡ Ok true → reader.old.at < reader.new.at }
-        ensures rest { BodyContinuesAs
-            (remaining_in T.with_change T.with_instant ready self.old.codes.now reader.old
-            (body_fold (T.taken self.old.timed.visitor) self.old.timed.clock) self.old.dump_section)
-            (remaining_in T.with_change T.with_instant ready self.new.codes.now reader.new
-            (body_fold (T.taken self.new.timed.visitor) self.new.timed.clock) self.new.dump_section)
-            (T.taken self.new.timed.visitor) self.new.timed.clock.time result }
+        ensures rest { ContinuesIn T.with_change T.with_instant T.taken
+            (rest_in T.with_change T.with_instant T.taken self.old ready reader.old) self.new ready reader.new result }
     {
         if !reader.finds_token() {
             return Ok(false);
@@ -127,12 +114,8 @@ impl<'a, 'c, T: ChangeVisitor> Body<'a, 'c, T> {
         ensures text { reader.new.text ≡ reader.old.text }
         ensures forward { IfOk result (λ _. reader.old.at ≤ reader.new.at) }
         ensures moves { result ≡ Ok true → reader.old.at < reader.new.at }
-        ensures rest { BodyContinuesAs
-            (remaining_in T.with_change T.with_instant ready self.old.codes.now reader.old
-            (body_fold (T.taken self.old.timed.visitor) self.old.timed.clock) self.old.dump_section)
-            (remaining_in T.with_change T.with_instant ready self.new.codes.now reader.new
-            (body_fold (T.taken self.new.timed.visitor) self.new.timed.clock) self.new.dump_section)
-            (T.taken self.new.timed.visitor) self.new.timed.clock.time result }
+        ensures rest { ContinuesIn T.with_change T.with_instant T.taken
+            (rest_in T.with_change T.with_instant T.taken self.old ready reader.old) self.new ready reader.new result }
     {
         let at = reader.at;
         match reader.short_time() {
@@ -152,12 +135,8 @@ impl<'a, 'c, T: ChangeVisitor> Body<'a, 'c, T> {
         ensures text { reader.new.text ≡ reader.old.text }
         ensures forward { IfOk result (λ _. reader.old.at ≤ reader.new.at) }
         ensures moves { result ≡ Ok true → reader.old.at < reader.new.at }
-        ensures rest { BodyContinuesAs
-            (remaining_in T.with_change T.with_instant ready self.old.codes.now reader.old
-            (body_fold (T.taken self.old.timed.visitor) self.old.timed.clock) self.old.dump_section)
-            (remaining_in T.with_change T.with_instant ready self.new.codes.now reader.new
-            (body_fold (T.taken self.new.timed.visitor) self.new.timed.clock) self.new.dump_section)
-            (T.taken self.new.timed.visitor) self.new.timed.clock.time result }
+        ensures rest { ContinuesIn T.with_change T.with_instant T.taken
+            (rest_in T.with_change T.with_instant T.taken self.old ready reader.old) self.new ready reader.new result }
     {
         let at = reader.at;
         if let Some((digit, code)) = reader.short_change() {
@@ -181,12 +160,10 @@ impl<'a, 'c, T: ChangeVisitor> Body<'a, 'c, T> {
         ensures moves { self.old.reader.at ≤ self.new.reader.at }
         ensures between { result ≡ Ok true → self.new.place ≡ Ready }
         ensures end { result ≡ Ok false → left_at self.new.reader.text self.new.reader.at ≡ [] }
-        ensures rest { BodyContinuesAs
+        ensures rest { ContinuesIn T.with_change T.with_instant T.taken
             (from_token T.with_change T.with_instant token.entry.at token.entry.bytes.now self.old.codes.now
-            self.old.reader (body_fold (T.taken self.old.timed.visitor) self.old.timed.clock) self.old.dump_section)
-            (remaining_in T.with_change T.with_instant (place_of self.new.place) self.new.codes.now self.new.reader
-            (body_fold (T.taken self.new.timed.visitor) self.new.timed.clock) self.new.dump_section)
-            (T.taken self.new.timed.visitor) self.new.timed.clock.time result }
+            self.old.reader (progress_of T.taken self.old.timed) self.old.dump_section)
+            self.new (place_of self.new.place) self.new.reader result }
     {
         let start = Start::Here(token.at);
         match shape_of(token.bytes) {
@@ -206,14 +183,10 @@ impl<'a, 'c, T: ChangeVisitor> Body<'a, 'c, T> {
         requires { IsStart self.old.reader.text start }
         ensures same { (self.new.reader ≡ self.old.reader) × (self.new.codes ≡ self.old.codes)
             × (self.new.place ≡ self.old.place) }
-        ensures kept { KeepsTaken (body_fold (T.taken self.old.timed.visitor) self.old.timed.clock)
-            (body_fold (T.taken self.new.timed.visitor) self.new.timed.clock) result }
+        ensures kept { KeepsTaken (progress_of T.taken self.old.timed) (progress_of T.taken self.new.timed) result }
         ensures goes_on { IfOk result (λ goes_on. goes_on ≡ true) }
-        ensures step { ReadGives (λ _. state_of self.new.reader.text
-            (body_fold (T.taken self.new.timed.visitor) self.new.timed.clock) self.new.dump_section) result
-            (step T.with_change T.with_instant self.old.codes.now (state_of self.old.reader.text
-            (body_fold (T.taken self.old.timed.visitor) self.old.timed.clock) self.old.dump_section)
-            (time_item (line_of self.old.reader.text start) digits.now)) }
+        ensures step { StepsTo T.with_change T.with_instant T.taken self.old
+            (time_item (line_of self.old.reader.text start) digits.now) self.new result }
     {
         match time_of(digits) {
             Ok(time) => self.go_to(alloc, start, time),
@@ -227,14 +200,11 @@ impl<'a, 'c, T: ChangeVisitor> Body<'a, 'c, T> {
         requires { IsStart self.old.reader.text start }
         ensures same { (self.new.reader ≡ self.old.reader) × (self.new.codes ≡ self.old.codes)
             × (self.new.place ≡ self.old.place) }
-        ensures kept { KeepsTaken (body_fold (T.taken self.old.timed.visitor) self.old.timed.clock)
-            (body_fold (T.taken self.new.timed.visitor) self.new.timed.clock) result }
+        ensures kept { KeepsTaken (progress_of T.taken self.old.timed) (progress_of T.taken self.new.timed) result }
         ensures goes_on { IfOk result (λ goes_on. goes_on ≡ true) }
-        ensures step { (digits : List ℕ) → time_of digits ≡ Ok time → ReadGives (λ _. state_of self.new.reader.text
-            (body_fold (T.taken self.new.timed.visitor) self.new.timed.clock) self.new.dump_section) result
-            (step T.with_change T.with_instant self.old.codes.now (state_of self.old.reader.text
-            (body_fold (T.taken self.old.timed.visitor) self.old.timed.clock) self.old.dump_section)
-            (time_item (line_of self.old.reader.text start) digits)) }
+        ensures step { (digits : List ℕ) → time_of digits ≡ Ok time
+            → StepsTo T.with_change T.with_instant T.taken self.old
+            (time_item (line_of self.old.reader.text start) digits) self.new result }
     {
         if time < self.timed.clock.time {
             return Err(self.reader.fault(start, FaultKind::TimeBackwards));
@@ -256,14 +226,10 @@ impl<'a, 'c, T: ChangeVisitor> Body<'a, 'c, T> {
         requires digits { 0 < length digits.now }
         ensures same { (self.new.reader ≡ self.old.reader) × (self.new.codes ≡ self.old.codes)
             × (self.new.place ≡ self.old.place) }
-        ensures kept { KeepsTaken (body_fold (T.taken self.old.timed.visitor) self.old.timed.clock)
-            (body_fold (T.taken self.new.timed.visitor) self.new.timed.clock) result }
+        ensures kept { KeepsTaken (progress_of T.taken self.old.timed) (progress_of T.taken self.new.timed) result }
         ensures goes_on { IfOk result (λ goes_on. goes_on ≡ true) }
-        ensures step { ReadGives (λ _. state_of self.new.reader.text
-            (body_fold (T.taken self.new.timed.visitor) self.new.timed.clock) self.new.dump_section) result
-            (step T.with_change T.with_instant self.old.codes.now (state_of self.old.reader.text
-            (body_fold (T.taken self.old.timed.visitor) self.old.timed.clock) self.old.dump_section)
-            (change (line_of self.old.reader.text start) digits.now code.now)) }
+        ensures step { StepsTo T.with_change T.with_instant T.taken self.old
+            (change (line_of self.old.reader.text start) digits.now code.now) self.new result }
     {
         let (net, size) = match self.codes.find(code) {
             Some(net) => net,
@@ -286,13 +252,10 @@ impl<'a, 'c, T: ChangeVisitor> Body<'a, 'c, T> {
         ensures moves { self.old.reader.at ≤ self.new.reader.at }
         ensures between { result ≡ Ok true → self.new.place ≡ Ready }
         ensures end { result ≡ Ok false → left_at self.new.reader.text self.new.reader.at ≡ [] }
-        ensures rest { BodyContinuesAs
-            (remaining_in T.with_change T.with_instant (code_of_vector (line_of self.old.reader.text start) digits.now)
-            self.old.codes.now self.old.reader
-            (body_fold (T.taken self.old.timed.visitor) self.old.timed.clock) self.old.dump_section)
-            (remaining_in T.with_change T.with_instant (place_of self.new.place) self.new.codes.now self.new.reader
-            (body_fold (T.taken self.new.timed.visitor) self.new.timed.clock) self.new.dump_section)
-            (T.taken self.new.timed.visitor) self.new.timed.clock.time result }
+        ensures rest { ContinuesIn T.with_change T.with_instant T.taken
+            (rest_in T.with_change T.with_instant T.taken self.old
+            (code_of_vector (line_of self.old.reader.text start) digits.now) self.old.reader)
+            self.new (place_of self.new.place) self.new.reader result }
     {
         match self.reader.next() {
             Some(code) => self.change(alloc, start, digits, code.bytes),
@@ -313,13 +276,10 @@ impl<'a, 'c, T: ChangeVisitor> Body<'a, 'c, T> {
         ensures moves { self.old.reader.at ≤ self.new.reader.at }
         ensures between { result ≡ Ok true → self.new.place ≡ Ready }
         ensures end { result ≡ Ok false → left_at self.new.reader.text self.new.reader.at ≡ [] }
-        ensures rest { BodyContinuesAs
-            (remaining_in T.with_change T.with_instant (code_of_foreign (line_of self.old.reader.text start))
-            self.old.codes.now self.old.reader
-            (body_fold (T.taken self.old.timed.visitor) self.old.timed.clock) self.old.dump_section)
-            (remaining_in T.with_change T.with_instant (place_of self.new.place) self.new.codes.now self.new.reader
-            (body_fold (T.taken self.new.timed.visitor) self.new.timed.clock) self.new.dump_section)
-            (T.taken self.new.timed.visitor) self.new.timed.clock.time result }
+        ensures rest { ContinuesIn T.with_change T.with_instant T.taken
+            (rest_in T.with_change T.with_instant T.taken self.old
+            (code_of_foreign (line_of self.old.reader.text start)) self.old.reader)
+            self.new (place_of self.new.place) self.new.reader result }
     {
         match self.reader.next() {
             Some(code) => self.skip(start, code.bytes),
@@ -334,12 +294,8 @@ impl<'a, 'c, T: ChangeVisitor> Body<'a, 'c, T> {
     fn skip(&self, start: Start, code: &[u8]) -> Result<bool, VcdFault>
         requires { IsStart self.now.reader.text start }
         ensures goes_on { IfOk result (λ goes_on. goes_on ≡ true) }
-        ensures step { ReadGives (λ _. state_of self.entry.now.reader.text
-            (body_fold (T.taken self.entry.now.timed.visitor) self.entry.now.timed.clock) self.entry.now.dump_section)
-            result
-            (step T.with_change T.with_instant self.entry.now.codes.now (state_of self.entry.now.reader.text
-            (body_fold (T.taken self.entry.now.timed.visitor) self.entry.now.timed.clock) self.entry.now.dump_section)
-            (skipped (line_of self.entry.now.reader.text start) code.now)) }
+        ensures step { StepsTo T.with_change T.with_instant T.taken self.entry.now
+            (skipped (line_of self.entry.now.reader.text start) code.now) self.entry.now result }
     {
         match self.codes.net(code) {
             Some(_) => Ok(true),
@@ -356,13 +312,10 @@ impl<'a, 'c, T: ChangeVisitor> Body<'a, 'c, T> {
         ensures moves { self.old.reader.at ≤ self.new.reader.at }
         ensures between { result ≡ Ok true → self.new.place ≡ Ready }
         ensures end { result ≡ Ok false → left_at self.new.reader.text self.new.reader.at ≡ [] }
-        ensures rest { BodyContinuesAs
-            (remaining_in T.with_change T.with_instant (in_comment (line_of self.old.reader.text start))
-            self.old.codes.now self.old.reader
-            (body_fold (T.taken self.old.timed.visitor) self.old.timed.clock) self.old.dump_section)
-            (remaining_in T.with_change T.with_instant (place_of self.new.place) self.new.codes.now self.new.reader
-            (body_fold (T.taken self.new.timed.visitor) self.new.timed.clock) self.new.dump_section)
-            (T.taken self.new.timed.visitor) self.new.timed.clock.time result }
+        ensures rest { ContinuesIn T.with_change T.with_instant T.taken
+            (rest_in T.with_change T.with_instant T.taken self.old
+            (in_comment (line_of self.old.reader.text start)) self.old.reader)
+            self.new (place_of self.new.place) self.new.reader result }
     {
         while let Some(word) = self.reader.next() {
             if is_end(word.bytes) {
@@ -378,14 +331,10 @@ impl<'a, 'c, T: ChangeVisitor> Body<'a, 'c, T> {
         requires { IsStart self.old.reader.text start }
         ensures same { (self.new.reader ≡ self.old.reader) × (self.new.codes ≡ self.old.codes)
             × (self.new.place ≡ self.old.place) }
-        ensures kept { KeepsTaken (body_fold (T.taken self.old.timed.visitor) self.old.timed.clock)
-            (body_fold (T.taken self.new.timed.visitor) self.new.timed.clock) result }
+        ensures kept { KeepsTaken (progress_of T.taken self.old.timed) (progress_of T.taken self.new.timed) result }
         ensures goes_on { IfOk result (λ goes_on. goes_on ≡ true) }
-        ensures step { ReadGives (λ _. state_of self.new.reader.text
-            (body_fold (T.taken self.new.timed.visitor) self.new.timed.clock) self.new.dump_section) result
-            (step T.with_change T.with_instant self.old.codes.now (state_of self.old.reader.text
-            (body_fold (T.taken self.old.timed.visitor) self.old.timed.clock) self.old.dump_section)
-            (dump_section_open (line_of self.old.reader.text start))) }
+        ensures step { StepsTo T.with_change T.with_instant T.taken self.old
+            (dump_section_open (line_of self.old.reader.text start)) self.new result }
     {
         if self.dump_section.is_some() {
             return Err(self.reader.fault(start, FaultKind::BadToken));
@@ -399,14 +348,10 @@ impl<'a, 'c, T: ChangeVisitor> Body<'a, 'c, T> {
         requires { IsStart self.old.reader.text start }
         ensures same { (self.new.reader ≡ self.old.reader) × (self.new.codes ≡ self.old.codes)
             × (self.new.place ≡ self.old.place) }
-        ensures kept { KeepsTaken (body_fold (T.taken self.old.timed.visitor) self.old.timed.clock)
-            (body_fold (T.taken self.new.timed.visitor) self.new.timed.clock) result }
+        ensures kept { KeepsTaken (progress_of T.taken self.old.timed) (progress_of T.taken self.new.timed) result }
         ensures goes_on { IfOk result (λ goes_on. goes_on ≡ true) }
-        ensures step { ReadGives (λ _. state_of self.new.reader.text
-            (body_fold (T.taken self.new.timed.visitor) self.new.timed.clock) self.new.dump_section) result
-            (step T.with_change T.with_instant self.old.codes.now (state_of self.old.reader.text
-            (body_fold (T.taken self.old.timed.visitor) self.old.timed.clock) self.old.dump_section)
-            (dump_section_end (line_of self.old.reader.text start))) }
+        ensures step { StepsTo T.with_change T.with_instant T.taken self.old
+            (dump_section_end (line_of self.old.reader.text start)) self.new result }
     {
         if self.dump_section.is_none() {
             return Err(self.reader.fault(start, FaultKind::BadToken));
@@ -421,12 +366,9 @@ impl<'a, 'c, T: ChangeVisitor> Body<'a, 'c, T> {
         ensures text { self.new.reader.text ≡ self.old.reader.text }
         ensures between { result ≡ Ok true → self.new.place ≡ Ready }
         ensures end { result ≡ Ok false → left_at self.new.reader.text self.new.reader.at ≡ [] }
-        ensures rest { BodyContinuesAs
-            (remaining_in T.with_change T.with_instant (place_of self.old.place) self.old.codes.now self.old.reader
-            (body_fold (T.taken self.old.timed.visitor) self.old.timed.clock) self.old.dump_section)
-            (remaining_in T.with_change T.with_instant (place_of self.new.place) self.new.codes.now self.new.reader
-            (body_fold (T.taken self.new.timed.visitor) self.new.timed.clock) self.new.dump_section)
-            (T.taken self.new.timed.visitor) self.new.timed.clock.time result }
+        ensures rest { ContinuesIn T.with_change T.with_instant T.taken
+            (rest_in T.with_change T.with_instant T.taken self.old (place_of self.old.place) self.old.reader)
+            self.new (place_of self.new.place) self.new.reader result }
     {
         match mem::replace(&mut self.place, OpenItem::Ready) {
             OpenItem::Ready => Ok(true),
@@ -443,12 +385,9 @@ impl<'a, 'c, T: ChangeVisitor> Body<'a, 'c, T> {
         ensures codes { self.new.codes ≡ self.old.codes }
         ensures text { self.new.reader.text ≡ self.old.reader.text }
         ensures end { OnOk result (left_at self.new.reader.text self.new.reader.at ≡ []) }
-        ensures rest { BodyContinuesAs
-            (remaining_in T.with_change T.with_instant (place_of self.old.place) self.old.codes.now self.old.reader
-            (body_fold (T.taken self.old.timed.visitor) self.old.timed.clock) self.old.dump_section)
-            (remaining_in T.with_change T.with_instant (place_of self.new.place) self.new.codes.now self.new.reader
-            (body_fold (T.taken self.new.timed.visitor) self.new.timed.clock) self.new.dump_section)
-            (T.taken self.new.timed.visitor) self.new.timed.clock.time result }
+        ensures rest { ContinuesIn T.with_change T.with_instant T.taken
+            (rest_in T.with_change T.with_instant T.taken self.old (place_of self.old.place) self.old.reader)
+            self.new (place_of self.new.place) self.new.reader result }
     {
         if !self.resume(alloc)? {
             return Ok(());
@@ -512,10 +451,8 @@ pub(crate) fn read_until_fault<T: ChangeVisitor>(
     state: BodyState<T>,
 ) -> Result<BodyState<T>, Stopped<T>>
     ensures { ContinuesOrStops (λ u. ahead_until_fault T.with_change T.with_instant codes.now
-        (body_fold (T.taken u.timed.visitor) u.timed.clock) u.dump_section (place_of u.place) []) (λ t. T.taken t)
-        result
-        (ahead_until_fault T.with_change T.with_instant codes.now
-        (body_fold (T.taken state.timed.visitor) state.timed.clock)
+        (progress_of T.taken u.timed) u.dump_section (place_of u.place) []) (λ t. T.taken t) result
+        (ahead_until_fault T.with_change T.with_instant codes.now (progress_of T.taken state.timed)
         state.dump_section (place_of state.place) (left_at reader.entry.text reader.entry.at)) }
 {
     let BodyState {
@@ -544,9 +481,8 @@ pub(crate) fn read_piece<T: ChangeVisitor>(
     state: BodyState<T>,
 ) -> Result<BodyState<T>, VcdFault>
     ensures { BodyContinuesTo (λ u. ahead T.with_change T.with_instant codes.now
-        (body_fold (T.taken u.timed.visitor) u.timed.clock)
-        u.dump_section (place_of u.place) []) result
-        (ahead T.with_change T.with_instant codes.now (body_fold (T.taken state.timed.visitor) state.timed.clock)
+        (progress_of T.taken u.timed) u.dump_section (place_of u.place) []) result
+        (ahead T.with_change T.with_instant codes.now (progress_of T.taken state.timed)
         state.dump_section (place_of state.place) (left_at reader.entry.text reader.entry.at)) }
 {
     match read_until_fault(alloc, reader, codes, state) {

@@ -3,7 +3,7 @@
 ghost use Rattle.std.specs.Prelude.{◌≡◌, false, List, None};
 ghost use Rattle.vcd_read.specs.Header.{Net};
 ghost use Rattle.vcd_read.specs.Bodies.{GivesOrStops, finished, place_of, unfinished};
-ghost use Rattle.vcd_read.specs.BodyFold.{body_fold};
+ghost use Rattle.vcd_read.specs.BodyFold.{progress_of};
 ghost use Rattle.vcd_read.specs.Meaning.{ReadGives};
 ghost use Rattle.vcd_read.specs.declared.open_item.OpenItem.TheVariants.{Ready};
 
@@ -43,10 +43,9 @@ impl<T: ChangeVisitor> BodyState<T> {
     /// Ends the body and the current instant, and returns the visitor. An item that isn't whole and a dump section that
     /// is still open are faults here: then the current instant isn't ended, and the visitor comes with the fault.
     pub fn finish_or_stop(self, alloc: Global) -> Result<T, Stopped<T>>
-        ensures { (nets : List Net) → GivesOrStops (λ t. T.taken t)
-            (body_fold (T.taken self.timed.visitor) self.timed.clock) result
-            (finished T.with_change T.with_instant nets (body_fold (T.taken self.timed.visitor) self.timed.clock)
-            self.dump_section (place_of self.place)) }
+        ensures { (nets : List Net) → GivesOrStops (λ t. T.taken t) (progress_of T.taken self.timed) result
+            (finished T.with_change T.with_instant nets (progress_of T.taken self.timed) self.dump_section
+            (place_of self.place)) }
     {
         if let Some(line) = self.unfinished() {
             return Err(Stopped {
@@ -64,8 +63,8 @@ impl<T: ChangeVisitor> BodyState<T> {
     /// As `finish_or_stop`, but an error has the fault alone.
     pub fn finish(self, alloc: Global) -> Result<T, VcdFault>
         ensures { (nets : List Net) → ReadGives (λ t. T.taken t) result
-            (finished T.with_change T.with_instant nets (body_fold (T.taken self.timed.visitor) self.timed.clock)
-            self.dump_section (place_of self.place)) }
+            (finished T.with_change T.with_instant nets (progress_of T.taken self.timed) self.dump_section
+            (place_of self.place)) }
     {
         match self.finish_or_stop(alloc) {
             Ok(visitor) => Ok(visitor),

@@ -27,7 +27,7 @@ pub(crate) struct TimedVisitor<T: ChangeVisitor> {
 }
 
 impl<T: ChangeVisitor> TimedVisitor<T> {
-    ghost use Rattle.vcd_read.specs.BodyFold.{body_fold, advanced, changed, ended};
+    ghost use Rattle.vcd_read.specs.BodyFold.{advanced, changed, ended, progress_of};
 
     /// Time 0, at which there is no instant yet.
     pub fn new(visitor: T) -> TimedVisitor<T>
@@ -47,8 +47,8 @@ impl<T: ChangeVisitor> TimedVisitor<T> {
     /// runs out, and then nothing is said of the visitor and the time.
     #[inline(always)]
     pub fn advance(&mut self, alloc: Global, time: u64) -> Result<(), AllocError>
-        ensures { OnOk result (body_fold (T.taken self.new.visitor) self.new.clock
-            ≡ advanced T.with_instant (body_fold (T.taken self.old.visitor) self.old.clock) time) }
+        ensures { OnOk result (progress_of T.taken self.new
+            ≡ advanced T.with_instant (progress_of T.taken self.old) time) }
     {
         if self.clock.has_instant && time != self.clock.time {
             self.visitor.end_instant(alloc, self.clock.time)?;
@@ -69,9 +69,8 @@ impl<T: ChangeVisitor> TimedVisitor<T> {
     ) -> Result<(), AllocError>
         requires some { 0 < length digits.now }
         requires fits { length digits.now ≤ size }
-        ensures { OnOk result (body_fold (T.taken self.new.visitor) self.new.clock
-            ≡ changed T.with_change (body_fold (T.taken self.old.visitor) self.old.clock) net
-            (extended size digits.now)) }
+        ensures { OnOk result (progress_of T.taken self.new
+            ≡ changed T.with_change (progress_of T.taken self.old) net (extended size digits.now)) }
     {
         self.visitor.change(alloc, net, size, digits)?;
         self.clock.has_instant = true;
@@ -80,8 +79,7 @@ impl<T: ChangeVisitor> TimedVisitor<T> {
 
     /// Ends the instant at the current time, if there is one, and returns the visitor. It fails if memory runs out.
     pub fn finish(mut self, alloc: Global) -> Result<T, Stopped<T>>
-        ensures visitor { IfOk result (λ visitor. T.taken visitor
-            ≡ ended T.with_instant (body_fold (T.taken self.visitor) self.clock)) }
+        ensures visitor { IfOk result (λ visitor. T.taken visitor ≡ ended T.with_instant (progress_of T.taken self)) }
         ensures memory { IfErr result (λ stopped. stopped.fault ≡ record { line = 0; kind = Memory }) }
     {
         if !self.clock.has_instant {

@@ -3,7 +3,7 @@ use denote.Ref.{Bor}
 use Rattle.vcd_read.specs.Header.{Net}
 use Rattle.vcd_read.specs.Bodies.{place_of}
 use Rattle.vcd_read.specs.Reading.{left_at}
-use Rattle.vcd_read.specs.BodyFold.{body_fold, state_of}
+use Rattle.vcd_read.specs.BodyPieces.{state_in}
 use Rattle.vcd_read.proofs.BodyLemmas.{until_fault-only_more}
 use Rattle.vcd_read.proofs.body.read_until_fault.Goals as goal
 
@@ -14,9 +14,8 @@ returns-in-Ok g c =
     rw (c.end.ensures.taken, c.end.ensures.clock, c.end.ensures.dump_section, c.end.ensures.place) (
     (rw (c.on_line.ensures.line c.args.reader.text) at c.in-Ok.ensures.rest more)
     ∙ until_fault-only_more g.T.ChangeVisitor.with_change g.T.ChangeVisitor.with_instant c.args.codes.now end.codes.now
-    (state_of end.reader.text (body_fold (g.T.ChangeVisitor.taken end.timed.visitor) end.timed.clock) end.dump_section)
-    (place_of end.place) (left_at end.reader.text end.reader.at) (ap (λ (codes : Bor (List Net)). codes.now)
-    c.in-Ok.ensures.codes) c.in-Ok.ensures.end more)
+    (state_in g.T.ChangeVisitor.taken end) (place_of end.place) (left_at end.reader.text end.reader.at)
+    (ap (λ (codes : Bor (List Net)). codes.now) c.in-Ok.ensures.codes) c.in-Ok.ensures.end more)
 
 pub returns-in-Err : goal.returns-in-Err
 returns-in-Err g c = λ more.

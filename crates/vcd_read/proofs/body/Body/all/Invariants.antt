@@ -2,8 +2,8 @@
 -- start gives.
 use Rattle.std.proofs.Common.{◌≡◌, ◌-◌, List, length}
 use Rattle.vcd_read.specs.Tokens.{Token}
-use Rattle.vcd_read.specs.Bodies.{place_of, remaining_in}
-use Rattle.vcd_read.specs.BodyFold.{body_fold}
+use Rattle.vcd_read.specs.Bodies.{place_of}
+use Rattle.vcd_read.specs.BodyPieces.{rest_in}
 use Rattle.vcd_read.specs.declared.open_item.OpenItem.TheVariants.{Ready}
 use Rattle.vcd_read.proofs.body.Body.all.Given as goal
 
@@ -13,12 +13,10 @@ invariant-loop-self g l = record {
   text : l.self.reader.text ≡ l.fn.self.reader.text;
   between : l.self.place ≡ Ready;
   rest : (more : List Token)
-      → remaining_in g.T.ChangeVisitor.with_change g.T.ChangeVisitor.with_instant (place_of l.fn.self.place)
-      l.fn.self.codes.now l.fn.self.reader (body_fold (g.T.ChangeVisitor.taken l.fn.self.timed.visitor)
-      l.fn.self.timed.clock) l.fn.self.dump_section more
-      ≡ remaining_in g.T.ChangeVisitor.with_change g.T.ChangeVisitor.with_instant (place_of l.self.place)
-      l.self.codes.now l.self.reader (body_fold (g.T.ChangeVisitor.taken l.self.timed.visitor) l.self.timed.clock)
-      l.self.dump_section more;
+      → rest_in g.T.ChangeVisitor.with_change g.T.ChangeVisitor.with_instant g.T.ChangeVisitor.taken
+      l.fn.self (place_of l.fn.self.place) l.fn.self.reader more
+      ≡ rest_in g.T.ChangeVisitor.with_change g.T.ChangeVisitor.with_instant g.T.ChangeVisitor.taken
+      l.self (place_of l.self.place) l.self.reader more;
 }
 
 abbrev pub decreases-loop-self : goal.decreases-loop-self

@@ -4,7 +4,8 @@ use Rattle.vcd_read.specs.Reading.{line_of, left_at, token_at}
 use Rattle.vcd_read.specs.Bodies.{place_of, until_fault}
 use Rattle.vcd_read.specs.Body.{in_comment}
 use Rattle.vcd_read.specs.declared.body_piece.BodyPiece.{BodyPiece}
-use Rattle.vcd_read.specs.BodyFold.{body_fold, state_of}
+use Rattle.vcd_read.specs.BodyFold.{progress_of}
+use Rattle.vcd_read.specs.BodyPieces.{state_in}
 use Rattle.vcd_read.proofs.BodyLemmas.{body_from-comment_end, body_from-comment_word, until_fault-nothing_left}
 use Rattle.vcd_read.proofs.BodyLemmas.{until_fault-same_state}
 use Rattle.vcd_read.proofs.body.Body.comment.Goals as goal
@@ -23,12 +24,10 @@ returns-then-is_end-clause-rest g c =
     (left_at text after ++ more) t
     (ap (λ (ts : List Token). ts ++ more) cut) (sym c.is_end.ensures ∙ c.if-is_end.true) in
     ap (until_fault g.T.ChangeVisitor.with_change g.T.ChangeVisitor.with_instant old.codes.now
-    (state_of old.reader.text (body_fold (g.T.ChangeVisitor.taken old.timed.visitor) old.timed.clock) old.dump_section))
-    (inv.rest more ∙ ended)
+    (state_in g.T.ChangeVisitor.taken old)) (inv.rest more ∙ ended)
     ∙ until_fault-same_state g.T.ChangeVisitor.with_change g.T.ChangeVisitor.with_instant old.codes.now
-    c.loop-word.self.codes.now
-    text c.next.new.self.text (body_fold (g.T.ChangeVisitor.taken old.timed.visitor) old.timed.clock)
-    (body_fold (g.T.ChangeVisitor.taken c.loop-word.self.timed.visitor) c.loop-word.self.timed.clock) old.dump_section
+    c.loop-word.self.codes.now text c.next.new.self.text (progress_of g.T.ChangeVisitor.taken old.timed)
+    (progress_of g.T.ChangeVisitor.taken c.loop-word.self.timed) old.dump_section
     c.loop-word.self.dump_section _ (place_of c.loop-word.self.place) after (cc) (cc) (rw inv.timed refl)
     inv.dump_section (ap place_of (inv.place ∙ c.requires.between)) more
 
@@ -62,14 +61,13 @@ returns-clause-rest g c =
     let later = c.in_default.ensures.text ∙ inv.text in
     let none = rw inv.text at c.in_default.ensures.token in
     let end = rw inv.text at c.in_default.ensures.end in
-    let s = state_of text (body_fold (g.T.ChangeVisitor.taken old.timed.visitor) old.timed.clock) old.dump_section in
+    let s = state_in g.T.ChangeVisitor.taken old in
     λ more.
     ap (until_fault g.T.ChangeVisitor.with_change g.T.ChangeVisitor.with_instant old.codes.now s) (inv.rest more)
     ∙ until_fault-nothing_left g.T.ChangeVisitor.with_change g.T.ChangeVisitor.with_instant old.codes.now s place
     (left_at text c.loop-word.self.reader.at) (left_at text after) none end more
     ∙ until_fault-same_state g.T.ChangeVisitor.with_change g.T.ChangeVisitor.with_instant old.codes.now
-    c.loop-word.self.codes.now
-    text c.next.new.self.text (body_fold (g.T.ChangeVisitor.taken old.timed.visitor) old.timed.clock)
-    (body_fold (g.T.ChangeVisitor.taken c.loop-word.self.timed.visitor) c.loop-word.self.timed.clock) old.dump_section
+    c.loop-word.self.codes.now text c.next.new.self.text (progress_of g.T.ChangeVisitor.taken old.timed)
+    (progress_of g.T.ChangeVisitor.taken c.loop-word.self.timed) old.dump_section
     c.loop-word.self.dump_section place (in_comment c.line.result) after (cc) later (rw inv.timed refl) inv.dump_section
     (ap in_comment (c.line.ensures ∙ ap (λ (x : BodyPiece). line_of x c.args.start) later)) more

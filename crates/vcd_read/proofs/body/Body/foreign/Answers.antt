@@ -3,7 +3,7 @@ use Rattle.vcd_read.specs.Tokens.{Token}
 use Rattle.vcd_read.specs.Reading.{left_at, line_of, token_at}
 use Rattle.vcd_read.specs.Body.{skipped}
 use Rattle.vcd_read.specs.Meaning.{ReadGives}
-use Rattle.vcd_read.specs.BodyFold.{body_fold, state_of, step}
+use Rattle.vcd_read.specs.BodyFold.{progress_of, state_of, step}
 use Rattle.vcd_read.specs.declared.body_piece.BodyPiece.{BodyPiece}
 use Rattle.vcd_read.proofs.BodyLemmas.{BodyContinuesAs-item, body_from-foreign_code, KeepsTaken-same}
 use Rattle.vcd_read.proofs.body.Body.foreign.Goals as goal
@@ -13,7 +13,7 @@ returns-in-Some-clause-rest g c =
     let old = c.args.self.now in
     let text = old.reader.text in
     let later = c.next.new.self.text in
-    let timed = body_fold (g.T.ChangeVisitor.taken old.timed.visitor) old.timed.clock in
+    let timed = progress_of g.T.ChangeVisitor.taken old.timed in
     let line = line_of text c.args.start in
     let after = c.next.new.self.at in
     let t = token_at text c.in-Some.code.at c.in-Some.code.bytes.now in

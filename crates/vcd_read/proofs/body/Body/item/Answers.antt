@@ -2,11 +2,10 @@ use Rattle.std.proofs.Common.{◌∙◌, ◌++◌, List, sym, ap}
 use Rattle.vcd_read.specs.Tokens.{Token}
 use Rattle.vcd_read.specs.Reading.{left_at, token_at}
 use Rattle.vcd_read.specs.Body.{time_item, change, dump_section_open, dump_section_end, time_shape, scalar, vector}
-use Rattle.vcd_read.specs.Body.{foreign}
-use Rattle.vcd_read.specs.Body.{comment, open_shape, end_shape, none}
+use Rattle.vcd_read.specs.Body.{foreign, comment, open_shape, end_shape, none}
 use Rattle.vcd_read.specs.Shapes.{found_shape}
 use Rattle.vcd_read.specs.Bodies.{until_fault}
-use Rattle.vcd_read.specs.BodyFold.{body_fold, state_of}
+use Rattle.vcd_read.specs.BodyPieces.{state_in}
 use Rattle.vcd_read.proofs.BodyLemmas.{BodyContinuesAs-item, body_from-shape, BodyContinuesAs-same, steps-wrong}
 use Rattle.vcd_read.proofs.body.Body.item.Goals as goal
 
@@ -20,8 +19,7 @@ returns-in-Time-clause-rest g c =
     (sym (ap found_shape c.in-Time.is) ∙ c.shape_of.ensures) in
     let new = c.time.new.self in
     BodyContinuesAs-item g.T.ChangeVisitor.with_change g.T.ChangeVisitor.with_instant old.codes.now new.codes.now
-    (state_of old.reader.text (body_fold (g.T.ChangeVisitor.taken old.timed.visitor) old.timed.clock) old.dump_section)
-    (state_of new.reader.text (body_fold (g.T.ChangeVisitor.taken new.timed.visitor) new.timed.clock) new.dump_section)
+    (state_in g.T.ChangeVisitor.taken old) (state_in g.T.ChangeVisitor.taken new)
     text new.reader.text old.reader.at new.reader.at new.place (time_item t.line c.in-Time.digits.now) _ c.time.result
     (cc) (cc) (cc) (cc) is c.time.ensures.step c.time.ensures.kept
 
@@ -34,11 +32,8 @@ returns-in-Scalar-clause-rest g c =
     (scalar c.in-Scalar.digit.now c.in-Scalar.code.now) (sym (ap found_shape c.in-Scalar.is) ∙ c.shape_of.ensures) in
     let new = c.change.new.self in
     BodyContinuesAs-item g.T.ChangeVisitor.with_change g.T.ChangeVisitor.with_instant old.codes.now new.codes.now
-    (state_of old.reader.text (body_fold (g.T.ChangeVisitor.taken old.timed.visitor) old.timed.clock) old.dump_section)
-    (state_of new.reader.text (body_fold (g.T.ChangeVisitor.taken new.timed.visitor) new.timed.clock) new.dump_section)
-    text
-    new.reader.text old.reader.at new.reader.at new.place (change t.line c.in-Scalar.digit.now c.in-Scalar.code.now) _
-    c.change.result
+    (state_in g.T.ChangeVisitor.taken old) (state_in g.T.ChangeVisitor.taken new) text new.reader.text
+    old.reader.at new.reader.at new.place (change t.line c.in-Scalar.digit.now c.in-Scalar.code.now) _ c.change.result
     (cc) (cc) (cc) (cc) is c.change.ensures.step c.change.ensures.kept
 
 pub returns-in-Opens-clause-rest : goal.returns-in-Opens-clause-rest
@@ -50,8 +45,7 @@ returns-in-Opens-clause-rest g c =
     (sym (ap found_shape c.in-Opens.is) ∙ c.shape_of.ensures) in
     let new = c.open.new.self in
     BodyContinuesAs-item g.T.ChangeVisitor.with_change g.T.ChangeVisitor.with_instant old.codes.now new.codes.now
-    (state_of old.reader.text (body_fold (g.T.ChangeVisitor.taken old.timed.visitor) old.timed.clock) old.dump_section)
-    (state_of new.reader.text (body_fold (g.T.ChangeVisitor.taken new.timed.visitor) new.timed.clock) new.dump_section)
+    (state_in g.T.ChangeVisitor.taken old) (state_in g.T.ChangeVisitor.taken new)
     text new.reader.text old.reader.at new.reader.at new.place (dump_section_open t.line) _ c.open.result
     (cc) (cc) (cc) (cc) is c.open.ensures.step c.open.ensures.kept
 
@@ -64,8 +58,7 @@ returns-in-Ends-clause-rest g c =
     (sym (ap found_shape c.in-Ends.is) ∙ c.shape_of.ensures) in
     let new = c.close.new.self in
     BodyContinuesAs-item g.T.ChangeVisitor.with_change g.T.ChangeVisitor.with_instant old.codes.now new.codes.now
-    (state_of old.reader.text (body_fold (g.T.ChangeVisitor.taken old.timed.visitor) old.timed.clock) old.dump_section)
-    (state_of new.reader.text (body_fold (g.T.ChangeVisitor.taken new.timed.visitor) new.timed.clock) new.dump_section)
+    (state_in g.T.ChangeVisitor.taken old) (state_in g.T.ChangeVisitor.taken new)
     text new.reader.text old.reader.at new.reader.at new.place (dump_section_end t.line) _ c.close.result
     (cc) (cc) (cc) (cc) is c.close.ensures.step c.close.ensures.kept
 
@@ -77,10 +70,9 @@ returns-in-Vector-clause-rest g c =
     let is = λ (more : List Token). body_from-shape t (left_at text old.reader.at ++ more)
     (vector c.in-Vector.digits.now)
     (sym (ap found_shape c.in-Vector.is) ∙ c.shape_of.ensures) in
-    BodyContinuesAs-same _ _ _ _ _ c.vector.result (λ more. ap (until_fault g.T.ChangeVisitor.with_change
-    g.T.ChangeVisitor.with_instant old.codes.now (state_of old.reader.text (body_fold
-    (g.T.ChangeVisitor.taken old.timed.visitor) old.timed.clock)
-    old.dump_section)) (is more)) c.vector.ensures.rest
+    BodyContinuesAs-same _ _ _ _ _ c.vector.result
+    (λ more. ap (until_fault g.T.ChangeVisitor.with_change g.T.ChangeVisitor.with_instant old.codes.now
+    (state_in g.T.ChangeVisitor.taken old)) (is more)) c.vector.ensures.rest
 
 pub returns-in-Foreign-clause-rest : goal.returns-in-Foreign-clause-rest
 returns-in-Foreign-clause-rest g c =
@@ -89,10 +81,9 @@ returns-in-Foreign-clause-rest g c =
     let t = token_at text c.args.token.at c.args.token.bytes.now in
     let is = λ (more : List Token). body_from-shape t (left_at text old.reader.at ++ more) foreign
     (sym (ap found_shape c.in-Foreign.is) ∙ c.shape_of.ensures) in
-    BodyContinuesAs-same _ _ _ _ _ c.foreign.result (λ more. ap (until_fault g.T.ChangeVisitor.with_change
-    g.T.ChangeVisitor.with_instant old.codes.now (state_of old.reader.text (body_fold
-    (g.T.ChangeVisitor.taken old.timed.visitor) old.timed.clock)
-    old.dump_section)) (is more)) c.foreign.ensures.rest
+    BodyContinuesAs-same _ _ _ _ _ c.foreign.result
+    (λ more. ap (until_fault g.T.ChangeVisitor.with_change g.T.ChangeVisitor.with_instant old.codes.now
+    (state_in g.T.ChangeVisitor.taken old)) (is more)) c.foreign.ensures.rest
 
 pub returns-in-Comment-clause-rest : goal.returns-in-Comment-clause-rest
 returns-in-Comment-clause-rest g c =
@@ -101,10 +92,9 @@ returns-in-Comment-clause-rest g c =
     let t = token_at text c.args.token.at c.args.token.bytes.now in
     let is = λ (more : List Token). body_from-shape t (left_at text old.reader.at ++ more) comment
     (sym (ap found_shape c.in-Comment.is) ∙ c.shape_of.ensures) in
-    BodyContinuesAs-same _ _ _ _ _ c.comment.result (λ more. ap (until_fault g.T.ChangeVisitor.with_change
-    g.T.ChangeVisitor.with_instant old.codes.now (state_of old.reader.text (body_fold
-    (g.T.ChangeVisitor.taken old.timed.visitor) old.timed.clock)
-    old.dump_section)) (is more)) c.comment.ensures.rest
+    BodyContinuesAs-same _ _ _ _ _ c.comment.result
+    (λ more. ap (until_fault g.T.ChangeVisitor.with_change g.T.ChangeVisitor.with_instant old.codes.now
+    (state_in g.T.ChangeVisitor.taken old)) (is more)) c.comment.ensures.rest
 
 pub returns-in-Unknown-clause-rest : goal.returns-in-Unknown-clause-rest
 returns-in-Unknown-clause-rest g c =
@@ -114,5 +104,4 @@ returns-in-Unknown-clause-rest g c =
     let is = λ (more : List Token). body_from-shape t (left_at text old.reader.at ++ more) none
     (sym (ap found_shape c.in-Unknown.is) ∙ c.shape_of.ensures) in
     rw c.fault.ensures (λ more. steps-wrong g.T.ChangeVisitor.with_change g.T.ChangeVisitor.with_instant old.codes.now
-    (state_of old.reader.text (body_fold (g.T.ChangeVisitor.taken old.timed.visitor) old.timed.clock) old.dump_section)
-    t.line _ _ _ (is more))
+    (state_in g.T.ChangeVisitor.taken old) t.line _ _ _ (is more))

@@ -2,7 +2,7 @@ use Rattle.std.proofs.Common.{◌++◌, ◌∙◌, List, sym, ap}
 use Rattle.vcd_read.specs.Tokens.{Token}
 use Rattle.vcd_read.specs.Bodies.{place_of, until_fault}
 use Rattle.vcd_read.specs.Body.{body_from, ready}
-use Rattle.vcd_read.specs.BodyFold.{body_fold, state_of}
+use Rattle.vcd_read.specs.BodyPieces.{state_in}
 use Rattle.vcd_read.proofs.BodyLemmas.{BodyContinuesAs-same}
 use Rattle.vcd_read.proofs.body.Body.one.Goals as goal
 
@@ -16,18 +16,15 @@ returns-then-not-finds_token-clause-rest g c =
     λ more.
     rw c.finds_token.ensures.text
     (ap (λ (ts : List Token). until_fault g.T.ChangeVisitor.with_change g.T.ChangeVisitor.with_instant old.codes.now
-    (state_of old.reader.text (body_fold (g.T.ChangeVisitor.taken old.timed.visitor) old.timed.clock) old.dump_section)
-    (body_from (place_of old.place) (ts ++ more))) (sym c.finds_token.ensures.left))
+    (state_in g.T.ChangeVisitor.taken old) (body_from (place_of old.place) (ts ++ more)))
+    (sym c.finds_token.ensures.left))
 
 pub returns-clause-rest : goal.returns-clause-rest
 returns-clause-rest g c =
     let old = c.args.self.now in
-    let text = old.reader.text in
-    let at = c.finds_token.new.self.at in
     let cut = sym c.finds_token.ensures.left ∙ rw c.finds_token.ensures.text at c.word-bytes.ensures.token in
     BodyContinuesAs-same _ _ _ _ _ c.item.result
     (λ more. rw (c.requires, c.word-bytes.ensures.text, c.finds_token.ensures.text)
     (ap (λ (ts : List Token). until_fault g.T.ChangeVisitor.with_change g.T.ChangeVisitor.with_instant old.codes.now
-    (state_of text (body_fold (g.T.ChangeVisitor.taken old.timed.visitor) old.timed.clock) old.dump_section)
-    (body_from ready (ts ++ more))) cut))
+    (state_in g.T.ChangeVisitor.taken old) (body_from ready (ts ++ more))) cut))
     c.item.ensures.rest

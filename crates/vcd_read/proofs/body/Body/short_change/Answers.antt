@@ -2,7 +2,7 @@ use Rattle.std.proofs.Common.{◌≡◌, ◌∷◌, ◌++◌, ◌∙◌, List, a
 use Rattle.vcd_read.specs.Tokens.{Token}
 use Rattle.vcd_read.specs.Reading.{left_at, token_at}
 use Rattle.vcd_read.specs.Body.{change, scalar, vector, ready, body_from}
-use Rattle.vcd_read.specs.BodyFold.{body_fold}
+use Rattle.vcd_read.specs.BodyFold.{progress_of}
 use Rattle.vcd_read.proofs.BodyLemmas.{BodyContinuesAs-item_at, body_from-shape, body_from-vector_code}
 use Rattle.vcd_read.proofs.body.Body.short_change.Goals as goal
 
@@ -22,8 +22,7 @@ returns-in-Some-clause-rest g c =
     ∙ body_from-shape t (left_at text after ++ more) (scalar digit code) c.in-Some.ensures.shape.1 in
     let step = rw (c.change.ensures.same.0, ← c.requires.text) at c.change.ensures.step in
     BodyContinuesAs-item_at g.T.ChangeVisitor.with_change g.T.ChangeVisitor.with_instant old.codes.now new.codes.now
-    (body_fold (g.T.ChangeVisitor.taken old.timed.visitor) old.timed.clock)
-    (body_fold (g.T.ChangeVisitor.taken new.timed.visitor) new.timed.clock)
+    (progress_of g.T.ChangeVisitor.taken old.timed) (progress_of g.T.ChangeVisitor.taken new.timed)
     old.dump_section new.dump_section text c.short_change.new.self.text after
     (change t.line digit code) _ c.change.result (cc) c.in-Some.ensures.text is step c.change.ensures.kept
 
@@ -52,8 +51,7 @@ returns-in-Some-next-clause-rest g c =
     (ap (λ (ts : List Token). ts ++ more) behind) in
     let step = rw (c.change-in-Some-next.ensures.same.0, ← c.requires.text) at c.change-in-Some-next.ensures.step in
     BodyContinuesAs-item_at g.T.ChangeVisitor.with_change g.T.ChangeVisitor.with_instant old.codes.now new.codes.now
-    (body_fold (g.T.ChangeVisitor.taken old.timed.visitor) old.timed.clock)
-    (body_fold (g.T.ChangeVisitor.taken new.timed.visitor) new.timed.clock)
+    (progress_of g.T.ChangeVisitor.taken old.timed) (progress_of g.T.ChangeVisitor.taken new.timed)
     old.dump_section new.dump_section text c.next.new.self.text after
     (change t.line digits code.bytes) _ c.change-in-Some-next.result (cc)
     (c.in-Some-next.ensures.text ∙ text_is) is step c.change-in-Some-next.ensures.kept

@@ -2,7 +2,7 @@ use Rattle.std.proofs.Common.{◌++◌, List, sym, ap}
 use Rattle.vcd_read.specs.Tokens.{Token}
 use Rattle.vcd_read.specs.Bodies.{until_fault}
 use Rattle.vcd_read.specs.Body.{body_from, ready}
-use Rattle.vcd_read.specs.BodyFold.{body_fold, state_of}
+use Rattle.vcd_read.specs.BodyFold.{progress_of, state_of}
 use Rattle.vcd_read.proofs.BodyLemmas.{BodyContinuesAs-same}
 use Rattle.vcd_read.proofs.body.Body.short_item.Goals as goal
 
@@ -12,8 +12,8 @@ returns-then-not-finds_token-clause-rest g c =
     λ more.
     rw c.finds_token.ensures.text
     (ap (λ (ts : List Token). until_fault g.T.ChangeVisitor.with_change g.T.ChangeVisitor.with_instant old.codes.now
-    (state_of c.args.reader.now.text (body_fold (g.T.ChangeVisitor.taken old.timed.visitor) old.timed.clock)
-    old.dump_section) (body_from ready (ts ++ more))) (sym c.finds_token.ensures.left))
+    (state_of c.args.reader.now.text (progress_of g.T.ChangeVisitor.taken old.timed) old.dump_section)
+    (body_from ready (ts ++ more))) (sym c.finds_token.ensures.left))
 
 pub returns-then-reader-eq35-clause-rest : goal.returns-then-reader-eq35-clause-rest
 returns-then-reader-eq35-clause-rest g c =
@@ -21,8 +21,8 @@ returns-then-reader-eq35-clause-rest g c =
     BodyContinuesAs-same _ _ _ _ _ c.short_time.result
     (λ more. rw c.finds_token.ensures.text
     (ap (λ (ts : List Token). until_fault g.T.ChangeVisitor.with_change g.T.ChangeVisitor.with_instant old.codes.now
-    (state_of c.args.reader.now.text (body_fold (g.T.ChangeVisitor.taken old.timed.visitor) old.timed.clock)
-    old.dump_section) (body_from ready (ts ++ more))) (sym c.finds_token.ensures.left)))
+    (state_of c.args.reader.now.text (progress_of g.T.ChangeVisitor.taken old.timed) old.dump_section)
+    (body_from ready (ts ++ more))) (sym c.finds_token.ensures.left)))
     c.short_time.ensures.rest
 
 pub returns-clause-rest : goal.returns-clause-rest
@@ -31,6 +31,6 @@ returns-clause-rest g c =
     BodyContinuesAs-same _ _ _ _ _ c.short_change.result
     (λ more. rw c.finds_token.ensures.text
     (ap (λ (ts : List Token). until_fault g.T.ChangeVisitor.with_change g.T.ChangeVisitor.with_instant old.codes.now
-    (state_of c.args.reader.now.text (body_fold (g.T.ChangeVisitor.taken old.timed.visitor) old.timed.clock)
-    old.dump_section) (body_from ready (ts ++ more))) (sym c.finds_token.ensures.left)))
+    (state_of c.args.reader.now.text (progress_of g.T.ChangeVisitor.taken old.timed) old.dump_section)
+    (body_from ready (ts ++ more))) (sym c.finds_token.ensures.left)))
     c.short_change.ensures.rest

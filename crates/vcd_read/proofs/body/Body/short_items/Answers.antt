@@ -3,7 +3,7 @@ use Rattle.vcd_read.specs.Tokens.{Token}
 use Rattle.vcd_read.specs.Bodies.{until_fault}
 use Rattle.vcd_read.specs.Body.{body_from, ready}
 use Rattle.vcd_read.specs.Reading.{left_at}
-use Rattle.vcd_read.specs.BodyFold.{state_of, body_fold}
+use Rattle.vcd_read.specs.BodyFold.{progress_of, state_of}
 use Rattle.vcd_read.specs.declared.body_piece.BodyPiece.{BodyPiece}
 use Rattle.vcd_read.specs.declared.token.Reader.{Reader}
 use Rattle.vcd_read.proofs.BodyLemmas.{Stops-same, BodyContinuesAs-error}
@@ -15,7 +15,7 @@ loop-init g c =
     let again = c.again-reader.result in
     let s = λ (p : BodyPiece) (at : ℕ) (more : List Token). until_fault g.T.ChangeVisitor.with_change
     g.T.ChangeVisitor.with_instant old.codes.now
-    (state_of p (body_fold (g.T.ChangeVisitor.taken old.timed.visitor) old.timed.clock) old.dump_section)
+    (state_of p (progress_of g.T.ChangeVisitor.taken old.timed) old.dump_section)
     (body_from ready (left_at p at ++ more)) in
     record {
       codes = refl;
@@ -53,5 +53,5 @@ returns-clause-rest g c =
     ∙ sym (ap (λ (r : Reader). r.text) (read.same.0 ∙ c.loop.invariant.still)) in
     λ more. c.loop.invariant.rest more ∙ read.rest more
     ∙ ap (λ (p : BodyPiece). until_fault g.T.ChangeVisitor.with_change g.T.ChangeVisitor.with_instant new.codes.now
-    (state_of p (body_fold (g.T.ChangeVisitor.taken new.timed.visitor) new.timed.clock) new.dump_section)
+    (state_of p (progress_of g.T.ChangeVisitor.taken new.timed) new.dump_section)
     (body_from ready (left_at p c.short_item.new.reader.at ++ more))) same

@@ -3,8 +3,7 @@
 use Rattle.std.proofs.Common.{◌≡◌, ◌≤◌, ◌-◌, List, length}
 use Rattle.vcd_read.specs.Tokens.{Token}
 use Rattle.vcd_read.specs.Body.{ready}
-use Rattle.vcd_read.specs.Bodies.{remaining_in}
-use Rattle.vcd_read.specs.BodyFold.{body_fold}
+use Rattle.vcd_read.specs.BodyPieces.{rest_in}
 use Rattle.vcd_read.specs.declared.open_item.OpenItem.TheVariants.{Ready}
 use Rattle.vcd_read.proofs.body.Body.short_items.Given as goal
 
@@ -16,12 +15,10 @@ invariant-loop g l = record {
   forward : l.fn.self.reader.at ≤ l.reader.at;
   between : l.self.place ≡ Ready;
   rest : (more : List Token)
-      → remaining_in g.T.ChangeVisitor.with_change g.T.ChangeVisitor.with_instant ready
-      l.fn.self.codes.now l.fn.self.reader (body_fold (g.T.ChangeVisitor.taken l.fn.self.timed.visitor)
-      l.fn.self.timed.clock) l.fn.self.dump_section more
-      ≡ remaining_in g.T.ChangeVisitor.with_change g.T.ChangeVisitor.with_instant ready
-      l.self.codes.now l.reader (body_fold (g.T.ChangeVisitor.taken l.self.timed.visitor) l.self.timed.clock)
-      l.self.dump_section more;
+      → rest_in g.T.ChangeVisitor.with_change g.T.ChangeVisitor.with_instant g.T.ChangeVisitor.taken
+      l.fn.self ready l.fn.self.reader more
+      ≡ rest_in g.T.ChangeVisitor.with_change g.T.ChangeVisitor.with_instant g.T.ChangeVisitor.taken
+      l.self ready l.reader more;
 }
 
 abbrev pub decreases-loop : goal.decreases-loop

@@ -2,7 +2,7 @@ use Rattle.std.proofs.Common.{◌≡◌, ◌∷◌, ◌++◌, ◌∙◌, List, a
 use Rattle.vcd_read.specs.Tokens.{Token}
 use Rattle.vcd_read.specs.Reading.{left_at, token_at}
 use Rattle.vcd_read.specs.Body.{time_item, time_shape, ready, body_from}
-use Rattle.vcd_read.specs.BodyFold.{body_fold}
+use Rattle.vcd_read.specs.BodyFold.{progress_of}
 use Rattle.vcd_read.proofs.BodyLemmas.{BodyContinuesAs-item_at, body_from-shape}
 use Rattle.vcd_read.proofs.body.Body.short_time.Goals as goal
 
@@ -21,7 +21,6 @@ returns-in-Some-clause-rest g c =
     ∙ body_from-shape t (left_at text after ++ more) (time_shape digits) c.in-Some.ensures.time.2.1 in
     let step = rw (c.go_to.ensures.same.0, ← c.requires.text) at c.go_to.ensures.step digits c.in-Some.ensures.time.1 in
     BodyContinuesAs-item_at g.T.ChangeVisitor.with_change g.T.ChangeVisitor.with_instant old.codes.now new.codes.now
-    (body_fold (g.T.ChangeVisitor.taken old.timed.visitor) old.timed.clock)
-    (body_fold (g.T.ChangeVisitor.taken new.timed.visitor) new.timed.clock)
+    (progress_of g.T.ChangeVisitor.taken old.timed) (progress_of g.T.ChangeVisitor.taken new.timed)
     old.dump_section new.dump_section text c.short_time.new.self.text after
     (time_item t.line digits) _ c.go_to.result (cc) c.in-Some.ensures.text is step c.go_to.ensures.kept

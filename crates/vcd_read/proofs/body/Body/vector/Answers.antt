@@ -2,7 +2,7 @@ use Rattle.std.proofs.Common.{◌++◌, List, ap}
 use Rattle.vcd_read.specs.Tokens.{Token}
 use Rattle.vcd_read.specs.Reading.{left_at, line_of, token_at}
 use Rattle.vcd_read.specs.Body.{change}
-use Rattle.vcd_read.specs.BodyFold.{body_fold, state_of}
+use Rattle.vcd_read.specs.BodyPieces.{state_in}
 use Rattle.vcd_read.proofs.BodyLemmas.{BodyContinuesAs-item, body_from-vector_code}
 use Rattle.vcd_read.proofs.body.Body.vector.Goals as goal
 
@@ -18,7 +18,6 @@ returns-in-Some-clause-rest g c =
     let is = λ (more : List Token). body_from-vector_code line c.args.digits.now (left_at text old.reader.at ++ more)
     (left_at text after ++ more) t (ap (λ (ts : List Token). ts ++ more) c.in-Some.ensures.token) in
     BodyContinuesAs-item g.T.ChangeVisitor.with_change g.T.ChangeVisitor.with_instant old.codes.now new.codes.now
-    (state_of old.reader.text (body_fold (g.T.ChangeVisitor.taken old.timed.visitor) old.timed.clock) old.dump_section)
-    (state_of new.reader.text (body_fold (g.T.ChangeVisitor.taken new.timed.visitor) new.timed.clock) new.dump_section)
+    (state_in g.T.ChangeVisitor.taken old) (state_in g.T.ChangeVisitor.taken new)
     text new.reader.text after new.reader.at new.place (change line c.args.digits.now t.bytes) _ c.change.result
     (cc) (cc) (cc) (cc) is h c.change.ensures.kept

@@ -3,7 +3,7 @@ use Rattle.std.proofs.Math.Seq.{take-length}
 use Rattle.vcd_read.specs.Tokens.{tokens_from}
 use Rattle.vcd_read.specs.Reading.{line_behind, tokens_after}
 use Rattle.vcd_read.specs.Body.{body_from, ready}
-use Rattle.vcd_read.specs.BodyFold.{state_at, body_fold}
+use Rattle.vcd_read.specs.BodyFold.{progress_of, state_at}
 use Rattle.vcd_read.specs.DetachedPieces.{before_piece, time_first}
 use Rattle.vcd_read.proofs.DetachedLemmas.{tokens_after-start, steps-to_end}
 use Rattle.vcd_read.proofs.pieces.BodyReader.detached.Goals as goal
@@ -17,8 +17,8 @@ returns-in-Ready-clause-read g c =
       whole =
           steps-to_end g.N.ChangeVisitor.with_change g.N.ChangeVisitor.with_instant c.args.self.now.codes
           (before_piece (g.N.ChangeVisitor.taken c.args.visitor) c.in_ok-time.time)
-          (state_at (body_fold (g.N.ChangeVisitor.taken c.in-Ok.field-0.timed.visitor) c.in-Ok.field-0.timed.clock)
-          c.in-Ok.field-0.dump_section) c.in-Ok.field-0.place (tokens_after line piece 0) (tokens_from line piece)
+          (state_at (progress_of g.N.ChangeVisitor.taken c.in-Ok.field-0.timed) c.in-Ok.field-0.dump_section)
+          c.in-Ok.field-0.place (tokens_after line piece 0) (tokens_from line piece)
           (tokens_after-start line piece) c.in-Ready.is (c.in-Ok.ensures []);
       line = c.line-behind.ensures ∙ ap (line_behind line) (take-length piece);
     }
