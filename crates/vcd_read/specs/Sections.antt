@@ -5,6 +5,7 @@ use Rattle.std.specs.List.{concat}
 use Rattle.vcd_read.specs.declared.dump.Variable.{Variable}
 use Rattle.vcd_read.specs.declared.fault.FaultKind.TheVariants.{UnfinishedSection}
 use Rattle.vcd_read.specs.declared.fault.VcdFault.{VcdFault}
+use Rattle.vcd_read.specs.declared.header.Definitions.{Definitions}
 use Rattle.vcd_read.specs.declared.header.Opening.{Opening}
 use Rattle.vcd_read.specs.declared.header.Opening.TheVariants.{Var, Scope, Upscope, EndDefinitions, Skipped, Nothing}
 use Rattle.vcd_read.specs.declared.header.VarSection.{VarSection}
@@ -71,6 +72,10 @@ ReturnsAs view (Err e) read = read ≡ Err e
 -- the open scopes, the nets, and what a visitor made of the variables
 abbrev pub declared_in : {V : Type 0} → List (List ℕ) → List Net → V → Declared V
 declared_in scopes nets variables = record { scopes = scopes; nets = nets; variables = variables }
+
+-- what the sections so far declare, by the scopes of their visitor and what it made of the variables
+abbrev pub declared_by : {D V : Type 0} → (D → List (List ℕ)) → (D → V) → Definitions D → Declared V
+declared_by scopes taken d = declared_in (scopes d.declarations) d.codes (taken d.declarations)
 
 -- The nets that a header declares, and the tokens after it.
 pub record Headed : Type 0 where

@@ -1,15 +1,15 @@
 //! The header: sections, and what they declare.
 
-ghost use Rattle.std.specs.Prelude.{MatchOption, Some, Err, drop, ◌≡◌, ◌≤◌, ◌<◌, ◌∷◌, ℕ, [], length, map, IfOk, OnOk};
+ghost use Rattle.std.specs.Prelude.{MatchOption, Some, Err, drop, ◌≡◌, ◌≤◌, ◌<◌, ◌∷◌, [], length, IfOk, OnOk};
 ghost use Rattle.std.specs.Prelude.{Ok, true};
 ghost use Rattle.std.specs.List.{All, concat};
 ghost use Rattle.vcd_read.specs.Reading.{line_at, left_at, token_at};
 ghost use Rattle.vcd_read.specs.Header.{is_code, is_end, opens_section, var_words, reference_of, net_of, net_for};
-ghost use Rattle.vcd_read.specs.Header.{variable_in, at_line, declare_var, nothing_declared, header_from, between};
+ghost use Rattle.vcd_read.specs.Header.{variable_in, at_line, declare_var, nothing_declared};
 ghost use Rattle.vcd_read.specs.Scopes.{texts};
 ghost use Rattle.vcd_read.specs.Meaning.{ReadGives};
 ghost use Rattle.vcd_read.specs.declared.fault.FaultKind.TheVariants.{SizeConflict};
-ghost use Rattle.vcd_read.specs.Sections.{opening_of, var_of, ReturnsAs, section_from, after_section, declared_in};
+ghost use Rattle.vcd_read.specs.Sections.{opening_of, var_of, ReturnsAs, section_from, after_section, declared_by};
 ghost use Rattle.vcd_read.specs.Sections.{SectionContinuesAs, headed, header_of};
 
 use crate::body_piece::Start;
@@ -219,8 +219,7 @@ impl<D: DeclarationVisitor> Definitions<D> {
     /// Nothing is declared yet. It fails if memory runs out.
     fn new(alloc: Global, declarations: D) -> Result<Definitions<D>, AllocError>
         requires { D.scopes declarations ≡ [] }
-        ensures { IfOk result (λ d. declared_in (D.scopes d.declarations) d.codes (D.taken d.declarations)
-            ≡ nothing_declared (D.taken declarations)) }
+        ensures { IfOk result (λ d. declared_by D.scopes D.taken d ≡ nothing_declared (D.taken declarations)) }
     {
         Ok(Definitions {
             codes: Codes::new(alloc)?,
@@ -238,11 +237,9 @@ impl<D: DeclarationVisitor> Definitions<D> {
     ) -> Result<(), VcdFault>
         requires first { first ≤ length reader.now.text.bytes.now }
         requires each { All (λ word. 0 < length word.now) words.now }
-        ensures { ReadGives (λ _. declared_in (D.scopes self.new.declarations) self.new.codes
-            (D.taken self.new.declarations)) result
-            (at_line (line_at reader.now.text first) (declare_var D.with_variable
-            (declared_in (D.scopes self.old.declarations) self.old.codes (D.taken self.old.declarations))
-            (texts words.now))) }
+        ensures { ReadGives (λ _. declared_by D.scopes D.taken self.new) result
+            (at_line (line_at reader.now.text first)
+            (declare_var D.with_variable (declared_by D.scopes D.taken self.old) (texts words.now))) }
     {
         let var = match var_section(words) {
             Ok(var) => var,
@@ -267,9 +264,8 @@ impl<D: DeclarationVisitor> Definitions<D> {
         ensures moves { result ≡ Ok true → reader.old.at ≤ reader.new.at }
         ensures rest { let text = reader.old.text.bytes.now in
             let piece = reader.old.text in
-            let new = declared_in (D.scopes self.new.declarations) self.new.codes (D.taken self.new.declarations) in
-            SectionContinuesAs (header_of D.with_variable text
-            (declared_in (D.scopes self.old.declarations) self.old.codes (D.taken self.old.declarations))
+            let new = declared_by D.scopes D.taken self.new in
+            SectionContinuesAs (header_of D.with_variable text (declared_by D.scopes D.taken self.old)
             (token_at piece first.entry.at first.entry.bytes.now ∷ left_at piece reader.old.at))
             (header_of D.with_variable text new (left_at piece reader.new.at))
             (headed new (left_at piece reader.new.at)) result }
@@ -314,8 +310,7 @@ pub(crate) fn read_header<D: DeclarationVisitor>(
     requires scopes { D.scopes declarations ≡ [] }
     ensures text { reader.new.text ≡ reader.old.text }
     ensures header { let text = reader.old.text in
-        ReadGives (λ d. headed (declared_in (D.scopes d.declarations) d.codes (D.taken d.declarations))
-        (left_at text reader.new.at)) result
+        ReadGives (λ d. headed (declared_by D.scopes D.taken d) (left_at text reader.new.at)) result
         (header_of D.with_variable text.bytes.now (nothing_declared (D.taken declarations))
         (left_at text reader.old.at)) }
 {

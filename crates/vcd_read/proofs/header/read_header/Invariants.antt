@@ -3,7 +3,7 @@
 use Rattle.std.proofs.Common.{◌≡◌, ◌-◌, length}
 use Rattle.vcd_read.specs.Reading.{left_at}
 use Rattle.vcd_read.specs.Header.{nothing_declared}
-use Rattle.vcd_read.specs.Sections.{declared_in, header_of}
+use Rattle.vcd_read.specs.Sections.{declared_by, header_of}
 use Rattle.vcd_read.proofs.header.read_header.Given as goal
 
 abbrev pub invariant-loop-token : goal.invariant-loop-token
@@ -13,8 +13,8 @@ invariant-loop-token g l =
     record {
       same : l.reader.text ≡ l.fn.reader.text;
       left : header_of g.D.DeclarationVisitor.with_variable text
-          (declared_in (g.D.DeclarationVisitor.scopes l.definitions.declarations) l.definitions.codes
-          (g.D.DeclarationVisitor.taken l.definitions.declarations)) (left_at piece l.reader.at)
+          (declared_by g.D.DeclarationVisitor.scopes g.D.DeclarationVisitor.taken l.definitions)
+          (left_at piece l.reader.at)
           ≡ header_of g.D.DeclarationVisitor.with_variable text
           (nothing_declared (g.D.DeclarationVisitor.taken l.fn.declarations)) (left_at piece l.fn.reader.at);
     }

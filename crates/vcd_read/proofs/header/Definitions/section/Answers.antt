@@ -3,7 +3,7 @@ use Rattle.std.specs.List.{concat}
 use Rattle.std.proofs.lemmas.Result.{err_from_is_err_and}
 use Rattle.vcd_read.specs.Reading.{left_at, token_at}
 use Rattle.vcd_read.specs.Scopes.{texts}
-use Rattle.vcd_read.specs.Sections.{declared_in, header_of}
+use Rattle.vcd_read.specs.Sections.{declared_by, declared_in, header_of}
 use Rattle.vcd_read.proofs.HeaderLemmas.{var_stops, var_refused, var_continues, scope_stops, scope_continues}
 use Rattle.vcd_read.proofs.HeaderLemmas.{upscope_stops, upscope_refused, upscope_continues, end_stops, end_continues}
 use Rattle.vcd_read.proofs.HeaderLemmas.{skipped_stops, skipped_continues, header_of-stray}
@@ -13,8 +13,7 @@ pub returns-in-Nothing-clause-rest : goal.returns-in-Nothing-clause-rest
 returns-in-Nothing-clause-rest g c =
     let piece = c.args.reader.now.text in
     let text = piece.bytes.now in
-    let d = declared_in (g.D.DeclarationVisitor.scopes c.args.self.now.declarations) c.args.self.now.codes
-    (g.D.DeclarationVisitor.taken c.args.self.now.declarations) in
+    let d = declared_by g.D.DeclarationVisitor.scopes g.D.DeclarationVisitor.taken c.args.self.now in
     let t = token_at piece c.args.first.at c.args.first.bytes.now in
     let ts = left_at piece c.args.reader.now.at in
     rw c.fault.ensures (header_of-stray g.D.DeclarationVisitor.with_variable text d t ts c.in-Nothing.ensures)
@@ -23,8 +22,7 @@ pub returns-in_err-words-in-Var-clause-rest : goal.returns-in_err-words-in-Var-c
 returns-in_err-words-in-Var-clause-rest g c =
     let piece = c.args.reader.now.text in
     let text = piece.bytes.now in
-    let d = declared_in (g.D.DeclarationVisitor.scopes c.args.self.now.declarations) c.args.self.now.codes
-    (g.D.DeclarationVisitor.taken c.args.self.now.declarations) in
+    let d = declared_by g.D.DeclarationVisitor.scopes g.D.DeclarationVisitor.taken c.args.self.now in
     let t = token_at piece c.args.first.at c.args.first.bytes.now in
     let ts = left_at piece c.args.reader.now.at in
     let p = err_from_is_err_and c.from_residual.result c.from_residual.ensures.1 in
@@ -35,8 +33,7 @@ pub returns-in_err-declare-in-Var-clause-rest : goal.returns-in_err-declare-in-V
 returns-in_err-declare-in-Var-clause-rest g c =
     let piece = c.args.reader.now.text in
     let text = piece.bytes.now in
-    let d = declared_in (g.D.DeclarationVisitor.scopes c.args.self.now.declarations) c.args.self.now.codes
-    (g.D.DeclarationVisitor.taken c.args.self.now.declarations) in
+    let d = declared_by g.D.DeclarationVisitor.scopes g.D.DeclarationVisitor.taken c.args.self.now in
     let t = token_at piece c.args.first.at c.args.first.bytes.now in
     let ts = left_at piece c.args.reader.now.at in
     let p = err_from_is_err_and c.from_residual-in_err-declare-in-Var.result
@@ -50,8 +47,7 @@ pub returns-in_err-words-in-Scope-clause-rest : goal.returns-in_err-words-in-Sco
 returns-in_err-words-in-Scope-clause-rest g c =
     let piece = c.args.reader.now.text in
     let text = piece.bytes.now in
-    let d = declared_in (g.D.DeclarationVisitor.scopes c.args.self.now.declarations) c.args.self.now.codes
-    (g.D.DeclarationVisitor.taken c.args.self.now.declarations) in
+    let d = declared_by g.D.DeclarationVisitor.scopes g.D.DeclarationVisitor.taken c.args.self.now in
     let t = token_at piece c.args.first.at c.args.first.bytes.now in
     let ts = left_at piece c.args.reader.now.at in
     let p = err_from_is_err_and c.from_residual-in_err-words-in-Scope.result
@@ -63,8 +59,7 @@ pub returns-in_err-skip_section-in-Upscope-clause-rest : goal.returns-in_err-ski
 returns-in_err-skip_section-in-Upscope-clause-rest g c =
     let piece = c.args.reader.now.text in
     let text = piece.bytes.now in
-    let d = declared_in (g.D.DeclarationVisitor.scopes c.args.self.now.declarations) c.args.self.now.codes
-    (g.D.DeclarationVisitor.taken c.args.self.now.declarations) in
+    let d = declared_by g.D.DeclarationVisitor.scopes g.D.DeclarationVisitor.taken c.args.self.now in
     let t = token_at piece c.args.first.at c.args.first.bytes.now in
     let ts = left_at piece c.args.reader.now.at in
     let p = err_from_is_err_and c.from_residual-in_err-skip_section-in-Upscope.result
@@ -76,8 +71,7 @@ pub returns-then-not-close-clause-rest : goal.returns-then-not-close-clause-rest
 returns-then-not-close-clause-rest g c =
     let piece = c.args.reader.now.text in
     let text = piece.bytes.now in
-    let d = declared_in (g.D.DeclarationVisitor.scopes c.args.self.now.declarations) c.args.self.now.codes
-    (g.D.DeclarationVisitor.taken c.args.self.now.declarations) in
+    let d = declared_by g.D.DeclarationVisitor.scopes g.D.DeclarationVisitor.taken c.args.self.now in
     let t = token_at piece c.args.first.at c.args.first.bytes.now in
     let ts = left_at piece c.args.reader.now.at in
     rw (c.fault-then-not-close.ensures, c.in_ok-skip_section-in-Upscope.ensures.text)
@@ -89,8 +83,7 @@ pub returns-in_err-skip_section-in-EndDefinitions-clause-rest
 returns-in_err-skip_section-in-EndDefinitions-clause-rest g c =
     let piece = c.args.reader.now.text in
     let text = piece.bytes.now in
-    let d = declared_in (g.D.DeclarationVisitor.scopes c.args.self.now.declarations) c.args.self.now.codes
-    (g.D.DeclarationVisitor.taken c.args.self.now.declarations) in
+    let d = declared_by g.D.DeclarationVisitor.scopes g.D.DeclarationVisitor.taken c.args.self.now in
     let t = token_at piece c.args.first.at c.args.first.bytes.now in
     let ts = left_at piece c.args.reader.now.at in
     let p = err_from_is_err_and c.from_residual-in_err-skip_section-in-EndDefinitions.result
@@ -103,8 +96,7 @@ pub returns-in-EndDefinitions-clause-rest : goal.returns-in-EndDefinitions-claus
 returns-in-EndDefinitions-clause-rest g c =
     let piece = c.args.reader.now.text in
     let text = piece.bytes.now in
-    let d = declared_in (g.D.DeclarationVisitor.scopes c.args.self.now.declarations) c.args.self.now.codes
-    (g.D.DeclarationVisitor.taken c.args.self.now.declarations) in
+    let d = declared_by g.D.DeclarationVisitor.scopes g.D.DeclarationVisitor.taken c.args.self.now in
     let t = token_at piece c.args.first.at c.args.first.bytes.now in
     let ts = left_at piece c.args.reader.now.at in
     end_continues g.D.DeclarationVisitor.with_variable text d t ts _ c.in-EndDefinitions.ensures
@@ -114,8 +106,7 @@ pub returns-in_err-skip_section-in-Skipped-clause-rest : goal.returns-in_err-ski
 returns-in_err-skip_section-in-Skipped-clause-rest g c =
     let piece = c.args.reader.now.text in
     let text = piece.bytes.now in
-    let d = declared_in (g.D.DeclarationVisitor.scopes c.args.self.now.declarations) c.args.self.now.codes
-    (g.D.DeclarationVisitor.taken c.args.self.now.declarations) in
+    let d = declared_by g.D.DeclarationVisitor.scopes g.D.DeclarationVisitor.taken c.args.self.now in
     let t = token_at piece c.args.first.at c.args.first.bytes.now in
     let ts = left_at piece c.args.reader.now.at in
     let p = err_from_is_err_and c.from_residual-in_err-skip_section-in-Skipped.result
@@ -127,14 +118,12 @@ pub returns-in_ok-declare-in-Var-clause-rest : goal.returns-in_ok-declare-in-Var
 returns-in_ok-declare-in-Var-clause-rest g c =
     let piece = c.args.reader.now.text in
     let text = piece.bytes.now in
-    let d = declared_in (g.D.DeclarationVisitor.scopes c.args.self.now.declarations) c.args.self.now.codes
-    (g.D.DeclarationVisitor.taken c.args.self.now.declarations) in
+    let d = declared_by g.D.DeclarationVisitor.scopes g.D.DeclarationVisitor.taken c.args.self.now in
     let t = token_at piece c.args.first.at c.args.first.bytes.now in
     let ts = left_at piece c.args.reader.now.at in
     var_continues g.D.DeclarationVisitor.with_variable text d t ts (texts c.in_ok-words-in-Var.words.items)
     (left_at piece c.words_of.new.reader.at)
-    (declared_in (g.D.DeclarationVisitor.scopes c.declare.new.self.declarations) c.declare.new.self.codes
-    (g.D.DeclarationVisitor.taken c.declare.new.self.declarations)) c.in-Var.ensures
+    (declared_by g.D.DeclarationVisitor.scopes g.D.DeclarationVisitor.taken c.declare.new.self) c.in-Var.ensures
     c.in_ok-words-in-Var.ensures.words (rw (c.in_ok-words-in-Var.ensures.text, c.deref.ensures.value) at
     c.in_ok-declare-in-Var.ensures)
 
@@ -142,8 +131,7 @@ pub returns-in_ok-open-in-Scope-clause-rest : goal.returns-in_ok-open-in-Scope-c
 returns-in_ok-open-in-Scope-clause-rest g c =
     let piece = c.args.reader.now.text in
     let text = piece.bytes.now in
-    let d = declared_in (g.D.DeclarationVisitor.scopes c.args.self.now.declarations) c.args.self.now.codes
-    (g.D.DeclarationVisitor.taken c.args.self.now.declarations) in
+    let d = declared_by g.D.DeclarationVisitor.scopes g.D.DeclarationVisitor.taken c.args.self.now in
     let t = token_at piece c.args.first.at c.args.first.bytes.now in
     let ts = left_at piece c.args.reader.now.at in
     let words = c.in_ok-words-in-Scope.words.items in
@@ -163,8 +151,7 @@ pub returns-else-not-close-clause-rest : goal.returns-else-not-close-clause-rest
 returns-else-not-close-clause-rest g c =
     let piece = c.args.reader.now.text in
     let text = piece.bytes.now in
-    let d = declared_in (g.D.DeclarationVisitor.scopes c.args.self.now.declarations) c.args.self.now.codes
-    (g.D.DeclarationVisitor.taken c.args.self.now.declarations) in
+    let d = declared_by g.D.DeclarationVisitor.scopes g.D.DeclarationVisitor.taken c.args.self.now in
     let t = token_at piece c.args.first.at c.args.first.bytes.now in
     let ts = left_at piece c.args.reader.now.at in
     let rest = left_at piece c.skip_section.new.reader.at in
@@ -179,8 +166,7 @@ pub returns-in_ok-skip_section-in-Skipped-clause-rest : goal.returns-in_ok-skip_
 returns-in_ok-skip_section-in-Skipped-clause-rest g c =
     let piece = c.args.reader.now.text in
     let text = piece.bytes.now in
-    let d = declared_in (g.D.DeclarationVisitor.scopes c.args.self.now.declarations) c.args.self.now.codes
-    (g.D.DeclarationVisitor.taken c.args.self.now.declarations) in
+    let d = declared_by g.D.DeclarationVisitor.scopes g.D.DeclarationVisitor.taken c.args.self.now in
     let t = token_at piece c.args.first.at c.args.first.bytes.now in
     let ts = left_at piece c.args.reader.now.at in
     skipped_continues g.D.DeclarationVisitor.with_variable text d t ts _ c.in-Skipped.ensures
