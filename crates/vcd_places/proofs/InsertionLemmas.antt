@@ -14,6 +14,7 @@ use Rattle.vcd_read.specs.Header.{inside}
 use Rattle.vcd_read.specs.Header.{is_end, opened, opens_section, stray, unfinished, whole, with_item, with_word}
 use Rattle.vcd_read.specs.Header.{◌>>=◌, Declared, at_line, declare_all, declare_section}
 use Rattle.vcd_read.specs.Body.{body_from, ready, skipped}
+use Rattle.vcd_read.proofs.HeaderPlaces.{from_between, from_inside, from_section_end}
 use Rattle.vcd_read.proofs.PieceLemmas.{line_behind-cons, line_behind-one, spaced, token_before-append}
 use Rattle.vcd_read.proofs.PieceLemmas.{with_byte-with_tokens, with_tokens}
 use Rattle.vcd_places.specs.Places.{ends_at_boundary, is_unfinished, starts_at_boundary}
@@ -94,18 +95,9 @@ module _ (more : List Token) where
   -- `SplitsHeader` holds from the end of a section on, if it does after it; `test` says whether the section ends the
   -- definitions
   SplitsHeader-section_end : (section : Section) (ts : List Token) (test : Bool) → SplitsHeader between ts
-      → IsBetweenSections (elim test as (λ _. Header) [
-        | true ↦ record { items = []; body = Some ts }
-        | false ↦ with_item (whole section) (header_from between ts)
-      ])
-      → elim test as (λ _. Header) [
-        | true ↦ record { items = []; body = Some (ts ++ more) }
-        | false ↦ with_item (whole section) (header_from between (ts ++ more))
-      ]
-      ≡ after_items (elim test as (λ _. Header) [
-        | true ↦ record { items = []; body = Some ts }
-        | false ↦ with_item (whole section) (header_from between ts)
-      ]).items (header_from between more)
+      → IsBetweenSections (from_section_end section ts test)
+      → from_section_end section (ts ++ more) test
+      ≡ after_items (from_section_end section ts test).items (header_from between more)
   SplitsHeader-section_end section ts true rest between_sections = absurd (true≢false between_sections.0)
   SplitsHeader-section_end section ts false rest between_sections = ap (with_item (whole section))
       (rest between_sections)
@@ -113,27 +105,9 @@ module _ (more : List Token) where
   -- `SplitsHeader` holds from a token in a section on, its end if `test` holds, if it does from the tokens after it on
   SplitsHeader-inside : (section : Section) (t : Token) (ts : List Token) (test : Bool) → SplitsHeader between ts
       → SplitsHeader (inside (with_word section t.bytes)) ts
-      → IsBetweenSections (elim test as (λ _. Header) [
-        | true ↦ elim (ends_definitions section) as (λ _. Header) [
-          | true ↦ record { items = []; body = Some ts }
-          | false ↦ with_item (whole section) (header_from between ts)
-        ]
-        | false ↦ header_from (inside (with_word section t.bytes)) ts
-      ])
-      → elim test as (λ _. Header) [
-        | true ↦ elim (ends_definitions section) as (λ _. Header) [
-          | true ↦ record { items = []; body = Some (ts ++ more) }
-          | false ↦ with_item (whole section) (header_from between (ts ++ more))
-        ]
-        | false ↦ header_from (inside (with_word section t.bytes)) (ts ++ more)
-      ]
-      ≡ after_items (elim test as (λ _. Header) [
-        | true ↦ elim (ends_definitions section) as (λ _. Header) [
-          | true ↦ record { items = []; body = Some ts }
-          | false ↦ with_item (whole section) (header_from between ts)
-        ]
-        | false ↦ header_from (inside (with_word section t.bytes)) ts
-      ]).items (header_from between more)
+      → IsBetweenSections (from_inside section t ts test)
+      → from_inside section t (ts ++ more) test
+      ≡ after_items (from_inside section t ts test).items (header_from between more)
   SplitsHeader-inside section t ts true rest goes_on between_sections = SplitsHeader-section_end section ts
       (ends_definitions section) rest between_sections
   SplitsHeader-inside section t ts false rest goes_on between_sections = goes_on between_sections
@@ -142,18 +116,9 @@ module _ (more : List Token) where
   -- after it on
   SplitsHeader-between : (t : Token) (ts : List Token) (test : Bool) → SplitsHeader between ts
       → SplitsHeader (inside (opened t)) ts
-      → IsBetweenSections (elim test as (λ _. Header) [
-        | true ↦ header_from (inside (opened t)) ts
-        | false ↦ with_item (stray t.line) (header_from between ts)
-      ])
-      → elim test as (λ _. Header) [
-        | true ↦ header_from (inside (opened t)) (ts ++ more)
-        | false ↦ with_item (stray t.line) (header_from between (ts ++ more))
-      ]
-      ≡ after_items (elim test as (λ _. Header) [
-        | true ↦ header_from (inside (opened t)) ts
-        | false ↦ with_item (stray t.line) (header_from between ts)
-      ]).items (header_from between more)
+      → IsBetweenSections (from_between t ts test)
+      → from_between t (ts ++ more) test
+      ≡ after_items (from_between t ts test).items (header_from between more)
   SplitsHeader-between t ts true rest goes_on between_sections = goes_on between_sections
   SplitsHeader-between t ts false rest goes_on between_sections = ap (with_item (stray t.line)) (rest between_sections)
 
@@ -185,18 +150,8 @@ module _ (more : List Token) where
 
   -- `ExtendsBody` holds from the end of a section on, which ends the definitions if `test` holds, if it does after it
   ExtendsBody-section_end : (section : Section) (ts body : List Token) (test : Bool) → ExtendsBody between ts
-      → (elim test as (λ _. Header) [
-        | true ↦ record { items = []; body = Some ts }
-        | false ↦ with_item (whole section) (header_from between ts)
-      ]).body ≡ Some body
-      → elim test as (λ _. Header) [
-        | true ↦ record { items = []; body = Some (ts ++ more) }
-        | false ↦ with_item (whole section) (header_from between (ts ++ more))
-      ]
-      ≡ with_more_body (elim test as (λ _. Header) [
-        | true ↦ record { items = []; body = Some ts }
-        | false ↦ with_item (whole section) (header_from between ts)
-      ]) body
+      → (from_section_end section ts test).body ≡ Some body
+      → from_section_end section (ts ++ more) test ≡ with_more_body (from_section_end section ts test) body
   ExtendsBody-section_end section ts body true rest ends =
       ap (λ (b : List Token). record { items = []; body = Some (b ++ more) }) (some-same_body ts body ends)
   ExtendsBody-section_end section ts body false rest ends = ap (with_item (whole section)) (rest body ends)
@@ -204,27 +159,8 @@ module _ (more : List Token) where
   -- `ExtendsBody` holds from a token in a section on, its end if `test` holds, if it does from the tokens after it on
   ExtendsBody-inside : (section : Section) (t : Token) (ts body : List Token) (test : Bool) → ExtendsBody between ts
       → ExtendsBody (inside (with_word section t.bytes)) ts
-      → (elim test as (λ _. Header) [
-        | true ↦ elim (ends_definitions section) as (λ _. Header) [
-          | true ↦ record { items = []; body = Some ts }
-          | false ↦ with_item (whole section) (header_from between ts)
-        ]
-        | false ↦ header_from (inside (with_word section t.bytes)) ts
-      ]).body ≡ Some body
-      → elim test as (λ _. Header) [
-        | true ↦ elim (ends_definitions section) as (λ _. Header) [
-          | true ↦ record { items = []; body = Some (ts ++ more) }
-          | false ↦ with_item (whole section) (header_from between (ts ++ more))
-        ]
-        | false ↦ header_from (inside (with_word section t.bytes)) (ts ++ more)
-      ]
-      ≡ with_more_body (elim test as (λ _. Header) [
-        | true ↦ elim (ends_definitions section) as (λ _. Header) [
-          | true ↦ record { items = []; body = Some ts }
-          | false ↦ with_item (whole section) (header_from between ts)
-        ]
-        | false ↦ header_from (inside (with_word section t.bytes)) ts
-      ]) body
+      → (from_inside section t ts test).body ≡ Some body
+      → from_inside section t (ts ++ more) test ≡ with_more_body (from_inside section t ts test) body
   ExtendsBody-inside section t ts body true rest goes_on ends =
       ExtendsBody-section_end section ts body (ends_definitions section) rest ends
   ExtendsBody-inside section t ts body false rest goes_on ends = goes_on body ends
@@ -233,18 +169,8 @@ module _ (more : List Token) where
   -- after it on
   ExtendsBody-between : (t : Token) (ts body : List Token) (test : Bool) → ExtendsBody between ts
       → ExtendsBody (inside (opened t)) ts
-      → (elim test as (λ _. Header) [
-        | true ↦ header_from (inside (opened t)) ts
-        | false ↦ with_item (stray t.line) (header_from between ts)
-      ]).body ≡ Some body
-      → elim test as (λ _. Header) [
-        | true ↦ header_from (inside (opened t)) (ts ++ more)
-        | false ↦ with_item (stray t.line) (header_from between (ts ++ more))
-      ]
-      ≡ with_more_body (elim test as (λ _. Header) [
-        | true ↦ header_from (inside (opened t)) ts
-        | false ↦ with_item (stray t.line) (header_from between ts)
-      ]) body
+      → (from_between t ts test).body ≡ Some body
+      → from_between t (ts ++ more) test ≡ with_more_body (from_between t ts test) body
   ExtendsBody-between t ts body true rest goes_on ends = goes_on body ends
   ExtendsBody-between t ts body false rest goes_on ends = ap (with_item (stray t.line)) (rest body ends)
 

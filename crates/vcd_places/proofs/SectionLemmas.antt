@@ -12,6 +12,7 @@ use Rattle.vcd_read.specs.Header.{Header, HeaderItem, Section, between, ends_def
 use Rattle.vcd_read.specs.Header.{opened, opens_section, stray, whole, with_item, with_word}
 use Rattle.vcd_read.specs.Body.{body_from, ready}
 use Rattle.vcd_read.specs.Meaning.{last_time}
+use Rattle.vcd_read.proofs.HeaderPlaces.{from_between, from_inside, from_section_end}
 use Rattle.vcd_places.specs.Places.{IsAtTime, body_in}
 use Rattle.vcd_places.specs.Places.{is_between_sections, is_unfinished, item_times, times_of_body}
 use Rattle.vcd_places.specs.NextTokens.{IsNextToken, IsTakenToEnd, ends_section, is_token_boundary}
@@ -27,28 +28,16 @@ words_of : Section → List Token → Section
 words_of section [] = section
 words_of section (w ∷ words) = words_of (with_word section w.bytes) words
 
--- the header from a token `t` of `section` on, where `test` is whether `t` is `$end`, `kind` whether the section ends
--- the definitions, and `ts` are the tokens after `t`
-abbrev continued : Section → Token → List Token → Bool → Bool → Header
-continued section t ts test kind = elim test as (λ _. Header) [
-  | true ↦ elim kind as (λ _. Header) [
-    | true ↦ record { items = []; body = Some ts }
-    | false ↦ with_item (whole section) (header_from between ts)
-  ]
-  | false ↦ header_from (inside (with_word section t.bytes)) ts
-]
-
 -- from inside `$enddefinitions` on, the tokens after its `$end` are the body
 header_from-end_definitions : (section : Section) (words : List Token) (last : Token) (more : List Token)
     → list_any ends_section words ≡ false → is_end last.bytes ≡ true → ends_definitions section ≡ true
     → header_from (inside section) (words ++ last ∷ more) ≡ record { items = []; body = Some more }
 unfolding header_from
 header_from-end_definitions section [] last more none ends is =
-    ap (λ (test : Bool). continued section last more test (ends_definitions section)) ends
-    ∙ ap (continued section last more true) is
+    ap (from_inside section last more) ends ∙ ap (from_section_end section more) is
 header_from-end_definitions section (w ∷ words) last more none ends is =
     let parts = or_parts (is_end w.bytes) (list_any ends_section words) none in
-    ap (λ (test : Bool). continued section w (words ++ last ∷ more) test (ends_definitions section)) parts.0
+    ap (from_inside section w (words ++ last ∷ more)) parts.0
     ∙ header_from-end_definitions (with_word section w.bytes) words last more parts.1 ends is
 
 -- from inside another section on, it is an item, with its words up to its `$end`, and the header goes on
@@ -58,11 +47,10 @@ header_from-whole_section : (section : Section) (words : List Token) (last : Tok
     ≡ with_item (whole (words_of section words)) (header_from between more)
 unfolding header_from words_of
 header_from-whole_section section [] last more none ends is =
-    ap (λ (test : Bool). continued section last more test (ends_definitions section)) ends
-    ∙ ap (continued section last more true) is
+    ap (from_inside section last more) ends ∙ ap (from_section_end section more) is
 header_from-whole_section section (w ∷ words) last more none ends is =
     let parts = or_parts (is_end w.bytes) (list_any ends_section words) none in
-    ap (λ (test : Bool). continued section w (words ++ last ∷ more) test (ends_definitions section)) parts.0
+    ap (from_inside section w (words ++ last ∷ more)) parts.0
     ∙ header_from-whole_section (with_word section w.bytes) words last more parts.1 ends is
 
 -- from inside a section without `$end` on, there is no body
@@ -72,15 +60,8 @@ unfolding header_from
 header_from-endless_section section [] none = refl
 header_from-endless_section section (w ∷ words) none =
     let parts = or_parts (is_end w.bytes) (list_any ends_section words) none in
-    ap (λ (test : Bool). (continued section w words test (ends_definitions section)).body) parts.0
+    ap (λ (test : Bool). (from_inside section w words test).body) parts.0
     ∙ header_from-endless_section (with_word section w.bytes) words parts.1
-
--- the header from a token `t` between two sections on, where `test` is whether `t` opens a section
-abbrev opened_by : Token → List Token → Bool → Header
-opened_by t ts test = elim test as (λ _. Header) [
-  | true ↦ header_from (inside (opened t)) ts
-  | false ↦ with_item (stray t.line) (header_from between ts)
-]
 
 -- ---- the definitions continue
 
@@ -135,13 +116,13 @@ module _ (text : List ℕ) (at next : ℕ) (bytes : List ℕ) (between_sections 
   is_between_sections-stray opens =
       is_between_sections-item (take next text) items (stray one.line) none_unfinished refl
       (ap (header_from between) one.taken ∙ header_from-split_at text at between_sections (first ∷ [])
-      ∙ ap (after_items items) (ap (opened_by first []) opens))
+      ∙ ap (after_items items) (ap (from_between first []) opens))
 
   -- from a token on that opens a section, the header is that from inside the section on
   header_from-opened : (ts : List Token) → opens_section bytes ≡ true
       → header_from between (first ∷ ts) ≡ header_from (inside (opened first)) ts
   unfolding header_from
-  header_from-opened ts opens = ap (opened_by first ts) opens
+  header_from-opened ts opens = ap (from_between first ts) opens
 
   module _ (end : ℕ) (opens : opens_section bytes ≡ true) (e : IsTakenToEnd text next end) where
     -- the tokens up to `end` are those before the section, and its own

@@ -1,16 +1,17 @@
 -- The header of a prefix of a text, and a fault in it that isn't met at its end, are those of the whole text.
-use Rattle.std.proofs.Common.{◌≡◌, ℕ, Bool, true, false, List, [], ◌∷◌, ◌++◌, Some, Result, Ok, Err, refl, subst}
+use Rattle.std.proofs.Common.{◌≡◌, ℕ, Bool, true, false, List, [], ◌∷◌, ◌++◌, Result, Ok, Err, refl, subst}
 use Rattle.vcd_read.specs.declared.dump.Variable.{Variable}
 use Rattle.vcd_read.specs.declared.fault.FaultKind.{FaultKind}
 use Rattle.vcd_read.specs.declared.fault.FaultKind.TheVariants.{Memory, NoEndDefinitions, UnfinishedSection}
 use Rattle.vcd_read.specs.declared.fault.VcdFault.{VcdFault}
 use Rattle.vcd_read.specs.Tokens.{Token}
-use Rattle.vcd_read.specs.Header.{◌>>=◌, at_line, is_end, opens_section, ends_definitions, Section, whole, stray}
-use Rattle.vcd_read.specs.Header.{Header, with_item, between, inside, opened, with_word, HeaderPlace, header_from}
+use Rattle.vcd_read.specs.Header.{◌>>=◌, at_line, is_end, opens_section, ends_definitions, Section}
+use Rattle.vcd_read.specs.Header.{Header, between, inside, opened, with_word, HeaderPlace, header_from}
 use Rattle.vcd_read.specs.Header.{Declared, declare_all, declare_section}
 use Rattle.vcd_read.specs.Sections.{Defined, defined, headed, header_of, rest_of_header}
 use Rattle.vcd_read.specs.Meaning.{ReadFailsAs, body_of}
 use Rattle.vcd_read.specs.Fronts.{going_on, IsMetAtTheEnd}
+use Rattle.vcd_read.proofs.HeaderPlaces.{from_between, from_inside, from_section_end}
 
 -- a fault stays, but for those that are met at the end of a text
 StaysAs : {V : Type 0} → ℕ → FaultKind → Result (Defined V) VcdFault → Type 0
@@ -58,16 +59,7 @@ module _ {V : Type 0} (with_variable : V → Variable → V) (text longer : List
   -- sections after it
   IsHeaderPrefix-section_end : (section : Section) (ts : List Token) (d : Declared V) (test : Bool)
       → ((next : Declared V) → IsHeaderPrefix next (header_from between ts) (header_from between (ts ++ more)))
-      → IsHeaderPrefix d (elim test as (λ _. Header) [
-        | true ↦ record { items = []; body = Some ts }
-        | false ↦ with_item
-            (whole section) (header_from between ts)
-      ])
-      (elim test as (λ _. Header) [
-        | true ↦ record { items = []; body = Some (ts ++ more) }
-        | false ↦ with_item
-            (whole section) (header_from between (ts ++ more))
-      ])
+      → IsHeaderPrefix d (from_section_end section ts test) (from_section_end section (ts ++ more) test)
   unfolding IsPrefixOf declare_all
   IsHeaderPrefix-section_end section ts d true both = refl
   IsHeaderPrefix-section_end section ts d false both = IsPrefixOf-section (header_from between ts)
@@ -79,20 +71,7 @@ module _ {V : Type 0} (with_variable : V → Variable → V) (text longer : List
       → ((next : Declared V) → IsHeaderPrefix next (header_from between ts) (header_from between (ts ++ more)))
       → IsHeaderPrefix d (header_from (inside (with_word section t.bytes)) ts)
       (header_from (inside (with_word section t.bytes)) (ts ++ more))
-      → IsHeaderPrefix d (elim end as (λ _. Header) [
-        | true ↦ elim (ends_definitions section) as (λ _. Header) [
-          | true ↦ record { items = []; body = Some ts }
-          | false ↦ with_item (whole section) (header_from between ts)
-        ]
-        | false ↦ header_from (inside (with_word section t.bytes)) ts
-      ]) (elim end as (λ _. Header) [
-        | true ↦ elim (ends_definitions section) as (λ _. Header) [
-          | true ↦ record { items = []; body = Some (ts ++ more) }
-          | false ↦ with_item (whole section)
-              (header_from between (ts ++ more))
-        ]
-        | false ↦ header_from (inside (with_word section t.bytes)) (ts ++ more)
-      ])
+      → IsHeaderPrefix d (from_inside section t ts end) (from_inside section t (ts ++ more) end)
   IsHeaderPrefix-inside section t ts d true both goes_on = IsHeaderPrefix-section_end section ts d
       (ends_definitions section) both
   IsHeaderPrefix-inside section t ts d false both goes_on = goes_on
@@ -100,16 +79,7 @@ module _ {V : Type 0} (with_variable : V → Variable → V) (text longer : List
   -- `IsHeaderPrefix` holds at a token between sections, which opens one if `opens` holds, if it holds after that token
   IsHeaderPrefix-between : (t : Token) (ts : List Token) (d : Declared V) (opens : Bool)
       → IsHeaderPrefix d (header_from (inside (opened t)) ts) (header_from (inside (opened t)) (ts ++ more))
-      → IsHeaderPrefix d (elim opens as (λ _. Header) [
-        | true ↦ header_from (inside (opened t)) ts
-        | false ↦ with_item
-            (stray t.line) (header_from between ts)
-      ])
-      (elim opens as (λ _. Header) [
-        | true ↦ header_from (inside (opened t)) (ts ++ more)
-        | false ↦ with_item
-            (stray t.line) (header_from between (ts ++ more))
-      ])
+      → IsHeaderPrefix d (from_between t ts opens) (from_between t (ts ++ more) opens)
   unfolding IsPrefixOf StaysAs declare_all
   IsHeaderPrefix-between t ts d true goes_on = goes_on
   IsHeaderPrefix-between t ts d false goes_on = refl

@@ -14,12 +14,13 @@ use Rattle.vcd_read.specs.declared.header.Opening.{Opening}
 use Rattle.vcd_read.specs.declared.header.Opening.TheVariants.{Var, Scope, Upscope, EndDefinitions, Skipped, Nothing}
 use Rattle.vcd_read.specs.Tokens.{Token, line_after}
 use Rattle.vcd_read.specs.Reading.{line_behind}
-use Rattle.vcd_read.specs.Header.{◌>>=◌, at_line, is_end, opens_section, ends_definitions, Section, whole, unfinished}
+use Rattle.vcd_read.specs.Header.{◌>>=◌, at_line, is_end, opens_section, ends_definitions, Section, unfinished}
 use Rattle.vcd_read.specs.Header.{stray, with_word, Header, with_item, between, inside, opened, header_from, Declared}
 use Rattle.vcd_read.specs.Header.{declare_all, declare_section, declare_var, open_scope, close_scope}
 use Rattle.vcd_read.specs.Sections.{Ended, after_word, ended_in, section_from, after_section, opening_of, Defined}
 use Rattle.vcd_read.specs.Sections.{headed, header_of, rest_of_header}
 use Rattle.vcd_read.specs.Meaning.{ReadFails, body_of}
+use Rattle.vcd_read.proofs.HeaderPlaces.{from_inside, from_section_end}
 use Rattle.vcd_read.proofs.ResultLemmas.{bind-same}
 use Rattle.vcd_read.proofs.ReadLemmas.{ReadFails-first}
 
@@ -86,10 +87,7 @@ section_with section words = record section { words = section.words ++ words }
 abbrev header_from_section : Section → Option Ended → Header
 header_from_section section None = record { items = unfinished section.line ∷ []; body = None }
 header_from_section section (Some ended) =
-    elim (ends_definitions section) [
-      | true ↦ record { items = []; body = Some ended.rest }
-      | false ↦ with_item (whole (section_with section ended.words)) (header_from between ended.rest)
-    ]
+    from_section_end (section_with section ended.words) ended.rest (ends_definitions section)
 
 -- one more word of a section, before the words up to its end, is the first of these
 header_from_section-with_word : (section : Section) (word : List ℕ) (ended : Option Ended)
@@ -97,33 +95,19 @@ header_from_section-with_word : (section : Section) (word : List ℕ) (ended : O
     ≡ header_from_section section (option_map (after_word word) ended)
 header_from_section-with_word section word None = refl
 header_from_section-with_word section word (Some ended) =
-    ap (λ (words : List (List ℕ)). elim (ends_definitions section) as (λ _. Header) [
-      | true ↦ record { items = []; body = Some ended.rest }
-      | false ↦ with_item
-          (whole (record section { words = words })) (header_from between ended.rest)
-    ])
-    (append_assoc section.words (word ∷ []) ended.words)
+    ap (λ (words : List (List ℕ)). from_section_end (record section { words = words }) ended.rest
+    (ends_definitions section)) (append_assoc section.words (word ∷ []) ended.words)
 
 -- a token in a section ends it, if `end` holds, or is one more word
 header_from_section-token : (section : Section) (t : Token) (ts : List Token) (end : Bool)
     → header_from (inside (with_word section t.bytes)) ts ≡ header_from_section (with_word section t.bytes)
     (ended_in ts)
-    → elim end as (λ _. Header) [
-      | true ↦ elim (ends_definitions section) as (λ _. Header) [
-        | true ↦ record { items = []; body = Some ts }
-        | false ↦ with_item (whole section) (header_from between ts)
-      ]
-      | false ↦ header_from (inside (with_word section t.bytes)) ts
-    ] ≡ header_from_section section (elim end as (λ _. Option Ended) [
+    → from_inside section t ts end ≡ header_from_section section (elim end as (λ _. Option Ended) [
       | true ↦ Some (record { words = []; rest = ts })
       | false ↦ option_map (after_word t.bytes) (ended_in ts)
     ])
 header_from_section-token section t ts true more =
-    ap (λ (words : List (List ℕ)). elim (ends_definitions section) as (λ _. Header) [
-      | true ↦ record { items = []; body = Some ts }
-      | false ↦ with_item (whole (record section { words = words }))
-          (header_from between ts)
-    ])
+    ap (λ (words : List (List ℕ)). from_section_end (record section { words = words }) ts (ends_definitions section))
     (sym (append-nil section.words))
 header_from_section-token section t ts false more = more ∙ header_from_section-with_word section t.bytes (ended_in ts)
 
@@ -166,10 +150,7 @@ module _ {V : Type 0} (with_variable : V → Variable → V) where
   -- the header from the end of a section on is the body after it, if `end` holds, and else what the section declares
   -- and the header after it
   rest_of_header-section : (text : List ℕ) (d : Declared V) (section : Section) (rest : List Token) (end : Bool)
-      → rest_of_header with_variable text d (elim end as (λ _. Header) [
-        | true ↦ record { items = []; body = Some rest }
-        | false ↦ with_item (whole section) (header_from between rest)
-      ])
+      → rest_of_header with_variable text d (from_section_end section rest end)
       ≡ elim end as (λ _. Reading) [
         | true ↦ Ok (headed d rest)
         | false ↦ at_line section.line

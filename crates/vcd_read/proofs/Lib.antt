@@ -19,6 +19,7 @@ pub mod PrefixLemmas
 pub mod ScopesLemmas
 pub mod ReferenceLemmas
 pub mod SectionLemmas
+pub mod HeaderPlaces
 pub mod HeaderLemmas
 pub mod FrontLemmas
 pub mod PieceLemmas
