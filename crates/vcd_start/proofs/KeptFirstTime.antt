@@ -1,17 +1,15 @@
 -- Once the first time of a dump is known, reading on leaves it as it is.
-use Rattle.std.proofs.Common.{◌≡◌, ℕ, Bool, true, false, ◌&&◌, List, [], ◌∷◌, Option, Some, Result, Ok, Err, refl}
-use Rattle.std.proofs.Common.{sym, ap, subst, ◌∙◌}
-use Rattle.std.specs.Prelude.{◌==◌, if◌then◌else◌, not}
+use Rattle.std.proofs.Common.{◌≡◌, ℕ, Bool, true, false, List, Option, Some, Result, Ok, Err, refl}
+use Rattle.std.proofs.Common.{sym, ap, ◌∙◌}
+use Rattle.std.specs.Prelude.{if◌then◌else◌}
 use Rattle.vcd_read.specs.declared.fault.VcdFault.{VcdFault}
-use Rattle.vcd_read.specs.Body.{BodyContext, BodyItem, at_the_end, body_from, dump_section_end, dump_section_open}
-use Rattle.vcd_read.specs.Body.{change}
-use Rattle.vcd_read.specs.Body.{context_after, skipped, time_item, wrong}
+use Rattle.vcd_read.specs.Body.{BodyContext, BodyItem, at_the_end, body_from}
 use Rattle.vcd_read.specs.Contents.{Contents}
 use Rattle.vcd_read.specs.Header.{◌>>=◌, Net}
-use Rattle.vcd_read.specs.Numbers.{number}
 use Rattle.vcd_read.specs.Reached.{Reached}
-use Rattle.vcd_read.specs.BodyFold.{State, BodyFold, advanced, at_end, ended, progress_after, state_at, steps}
+use Rattle.vcd_read.specs.BodyFold.{State, BodyFold, at_end, ended, state_at, steps}
 use Rattle.vcd_read.specs.Tokens.{Token}
+use Rattle.vcd_read.proofs.DetachedLemmas.{steps-keep}
 use Rattle.vcd_start.specs.FirstTimes.{first_time_of_dump}
 use Rattle.vcd_start.specs.FirstTimeReading.{LeadsToFirstTime, first_time_kept, first_time_or}
 
@@ -20,53 +18,13 @@ module _ (nets : List Net) (time : ℕ) where
   abbrev HasTime : BodyFold (Option ℕ) → Type 0
   HasTime p = p.accumulator ≡ Some time
 
-  -- a time item leaves the first time known
-  HasTime-advanced : (p : BodyFold (Option ℕ)) (t : ℕ) → HasTime p → HasTime (advanced first_time_or p t)
-  HasTime-advanced p t h = by_case (p.has_instant && not (t == p.time))
-    where
-      -- whether the time ends an instant or not
-      by_case : (b : Bool)
-          → HasTime (if b then record { accumulator = first_time_or p.accumulator p.time; time = t; has_instant = true }
-          else record p { time = t; has_instant = true })
-      by_case true = ap (λ (s : Option ℕ). first_time_or s p.time) h
-      by_case false = h
-
-  -- an item leaves the first time known
-  HasTime-item : (p : BodyFold (Option ℕ)) (item : BodyItem) → HasTime p
-      → HasTime (progress_after first_time_kept first_time_or nets p item)
-  HasTime-item p (time_item line digits) h = HasTime-advanced p (number digits) h
-  HasTime-item p (change line digits code) h = h
-  HasTime-item p (skipped line code) h = h
-  HasTime-item p (dump_section_open line) h = h
-  HasTime-item p (dump_section_end line) h = h
-  HasTime-item p (wrong line kind) h = h
-
-  -- the state with the progress `p`, if the context is no fault
-  abbrev stepped : BodyFold (Option ℕ) → Result BodyContext VcdFault → Result (State (Option ℕ)) VcdFault
-  stepped p c = c >>= λ next. Ok (record { context = next; progress = p })
-
-  -- an item, and then items that leave the first time known, leave it known
-  HasTime-steps_after_item : (items : List BodyItem) (item : BodyItem) (s : State (Option ℕ)) (end : State (Option ℕ))
-      → HasTime s.progress → (c : Result BodyContext VcdFault)
-      → ((next : State (Option ℕ)) → HasTime next.progress
-      → steps first_time_kept first_time_or nets next items ≡ Ok end
-      → HasTime end.progress)
-      → (stepped (progress_after first_time_kept first_time_or nets s.progress item) c
-      >>= λ next. steps first_time_kept first_time_or nets next items) ≡ Ok end → HasTime end.progress
-  HasTime-steps_after_item items item s end h (Ok next) rest is =
-      rest (record { context = next; progress = progress_after first_time_kept first_time_or nets s.progress item })
-      (HasTime-item s.progress item h) is
-  HasTime-steps_after_item items item s end h (Err fault) rest is = absurd (cc)
-
   -- items that are read without a fault leave the first time known
   HasTime-steps : (items : List BodyItem) (s end : State (Option ℕ)) → HasTime s.progress
       → steps first_time_kept first_time_or nets s items ≡ Ok end → HasTime end.progress
-  unfolding steps
-  HasTime-steps [] s end h is =
-      let same : s ≡ end = cc in subst (λ (e : State (Option ℕ)). HasTime e.progress) same h
-  HasTime-steps (item ∷ items) s end h is =
-      HasTime-steps_after_item items item s end h (context_after nets s.context item)
-      (λ next has e. HasTime-steps items next end has e) is
+  HasTime-steps items s end h is =
+      steps-keep first_time_kept first_time_or nets (λ (known : Option ℕ). known ≡ Some time)
+      (λ known net bits e. e) (λ known t e. ap (λ (first_time : Option ℕ). first_time_or first_time t) e)
+      s items end h is
 
   -- the end of the last instant leaves the first time known
   ended-HasTime : (p : BodyFold (Option ℕ)) → HasTime p → ended first_time_or p ≡ Some time
