@@ -1,17 +1,17 @@
 -- The times of a body without a fault: they don't go back, and each instant has one of them, or 0.
-use Rattle.std.proofs.Common.{◌≡◌, ℕ, Bool, true, false, eqb, List, [], ◌∷◌, Result, Ok, refl, sym, ap, subst}
-use Rattle.std.proofs.Common.{true≢false, ◌⊎◌, inl, inr, length}
+use Rattle.std.proofs.Common.{◌≡◌, ℕ, Bool, true, false, eqb, List, [], ◌∷◌, Result, Ok, sym, ap, subst}
+use Rattle.std.proofs.Common.{true≢false, ◌⊎◌, inl, inr}
 use Rattle.std.specs.Prelude.{◌||◌}
 use Rattle.std.specs.List.{cons_option}
 use Rattle.std.proofs.lemmas.Bool.{eq-eqb, eqb-true, or_cases, or_right}
 use Rattle.vcd_read.specs.declared.fault.FaultKind.{FaultKind}
 use Rattle.vcd_read.specs.Numbers.{number}
-use Rattle.vcd_read.specs.Header.{◌>>=◌, Net, net_of}
-use Rattle.vcd_read.specs.Body.{BodyContext, BodyItem, dump_section_end, dump_section_open, change, closed}
-use Rattle.vcd_read.specs.Body.{context_after, context_after_all, fitting, opened_at, skipped, time_item, wrong}
+use Rattle.vcd_read.specs.Header.{◌>>=◌, Net}
+use Rattle.vcd_read.specs.Body.{BodyContext, BodyItem, dump_section_end, dump_section_open, change}
+use Rattle.vcd_read.specs.Body.{context_after, context_after_all, skipped, time_item, wrong}
 use Rattle.vcd_read.specs.Meaning.{times_from}
 use Rattle.vcd_read.proofs.ResultLemmas.{bind-ok}
-use Rattle.vcd_read.proofs.ContextLemmas.{context_after-time, now-unchanged}
+use Rattle.vcd_read.proofs.ContextLemmas.{context_after-time, now-now_after}
 use Rattle.vcd_places.specs.Places.{if_time, item_times}
 use Rattle.vcd_places.specs.Times.{IsAscendingFrom, is_among}
 
@@ -22,11 +22,6 @@ module _ (nets : List Net) where
       → (next : BodyContext) × (context_after nets s item ≡ Ok next) × (context_after_all nets next items ≡ Ok end)
   context_after_all-first item items s end e =
       bind-ok (context_after nets s item) (λ next. context_after_all nets next items) end e
-
-  -- times that ascend from the next current time on ascend from an equal one
-  IsAscendingFrom-same : (s next : BodyContext) (times : List ℕ) → next.now ≡ s.now → IsAscendingFrom next.now times
-      → IsAscendingFrom s.now times
-  IsAscendingFrom-same s next times e from = subst (λ (n : ℕ). IsAscendingFrom n times) e from
 
   -- the times of a body don't go back
   pub IsAscendingFrom-item_times : (items : List BodyItem) (s end : BodyContext) → context_after_all nets s items
@@ -41,27 +36,11 @@ module _ (nets : List Net) where
       subst (λ (r : Result ℕ FaultKind). IsAscendingFrom s.now (cons_option (if_time r) (item_times items)))
       (sym time.0)
       (time.2, subst (λ (n : ℕ). IsAscendingFrom n (item_times items)) time.1 rest)
-  IsAscendingFrom-item_times (change line digits code ∷ items) s end e =
-      let read = context_after_all-first (change line digits code) items s end e in
-      IsAscendingFrom-same s read.0 (item_times items)
-      (now-unchanged (fitting nets (length digits) (net_of nets code)) line s read.0 (λ net. s) (λ net. refl) read.1)
-      (IsAscendingFrom-item_times items read.0 end read.2)
-  IsAscendingFrom-item_times (skipped line code ∷ items) s end e =
-      let read = context_after_all-first (skipped line code) items s end e in
-      IsAscendingFrom-same s read.0 (item_times items)
-      (now-unchanged (fitting nets 0 (net_of nets code)) line s read.0 (λ net. s) (λ net. refl) read.1)
-      (IsAscendingFrom-item_times items read.0 end read.2)
-  IsAscendingFrom-item_times (dump_section_open line ∷ items) s end e =
-      let read = context_after_all-first (dump_section_open line) items s end e in
-      IsAscendingFrom-same s read.0 (item_times items) (now-unchanged (opened_at line s.dump_section) line s read.0
-      (λ dump_section. record s { dump_section = dump_section }) (λ dump_section. refl) read.1)
-      (IsAscendingFrom-item_times items read.0 end read.2)
-  IsAscendingFrom-item_times (dump_section_end line ∷ items) s end e =
-      let read = context_after_all-first (dump_section_end line) items s end e in
-      IsAscendingFrom-same s read.0 (item_times items) (now-unchanged (closed s.dump_section) line s read.0
-      (λ dump_section. record s { dump_section = dump_section }) (λ dump_section. refl) read.1)
-      (IsAscendingFrom-item_times items read.0 end read.2)
   IsAscendingFrom-item_times (wrong line kind ∷ items) s end e = absurd cc
+  IsAscendingFrom-item_times (item ∷ items) s end e =
+      let read = context_after_all-first item items s end e in
+      subst (λ (n : ℕ). IsAscendingFrom n (item_times items)) (now-now_after nets s read.0 item read.1).0
+      (IsAscendingFrom-item_times items read.0 end read.2)
 
   -- `time` is `now`, or the time of a time item
   abbrev IsKnown : ℕ → ℕ → List BodyItem → Type 0

@@ -1,12 +1,14 @@
 -- The context after an item that is read without a fault: no step of the reading has one, and the current time is that
 -- of a time item, or else as it was.
-use Rattle.std.proofs.Common.{◌≡◌, ℕ, ◌≤◌, Bool, true, false, cond, List, Result, Ok, Err, refl, sym, ap, ◌∙◌, arith}
+use Rattle.std.proofs.Common.{◌≡◌, ℕ, ◌≤◌, Bool, true, false, cond, List, length, Result, Ok, Err, refl, sym, ap, ◌∙◌}
+use Rattle.std.proofs.Common.{arith}
 use Rattle.std.specs.Prelude.{nat_lt}
 use Rattle.std.proofs.lemmas.Bool.{ltb-false}
 use Rattle.vcd_read.specs.declared.fault.FaultKind.{FaultKind}
 use Rattle.vcd_read.specs.Numbers.{number, time_of}
-use Rattle.vcd_read.specs.Header.{◌>>=◌, at_line, Net}
-use Rattle.vcd_read.specs.Body.{BodyContext, context_after, time_after, time_item}
+use Rattle.vcd_read.specs.Header.{◌>>=◌, at_line, Net, net_of}
+use Rattle.vcd_read.specs.Body.{BodyContext, BodyItem, change, closed, context_after, dump_section_end}
+use Rattle.vcd_read.specs.Body.{dump_section_open, fitting, opened_at, skipped, time_after, time_item, wrong}
 use Rattle.vcd_read.proofs.ResultLemmas.{bind-ok}
 
 -- a result with a line that is no fault is none without the line
@@ -27,7 +29,7 @@ ok-after_test true x y e h = absurd cc
 ok-after_test false x y e h = (refl, cc)
 
 -- an item that keeps the current time leaves it as it was
-pub now-unchanged : {A : Type 0} (r : Result A FaultKind) (line : ℕ) (s next : BodyContext) (f : A → BodyContext)
+now-unchanged : {A : Type 0} (r : Result A FaultKind) (line : ℕ) (s next : BodyContext) (f : A → BodyContext)
     → ((x : A) → (f x).now ≡ s.now) → at_line line (r >>= λ x. Ok (f x)) ≡ Ok next → next.now ≡ s.now
 now-unchanged r line s next f same h =
     let a = bind-ok r _ next (at_line-ok line _ next h) in
@@ -48,3 +50,34 @@ context_after-time nets s next line digits h =
       sym (ap (λ (s : BodyContext). s.now) e) ∙ sym (n ∙ t.1),
       omega (arith, ltb-false a.0 s.now t.0, n),
     )
+
+-- the time after an item
+abbrev pub now_after : ℕ → BodyItem → ℕ
+now_after now (time_item line digits) = number digits
+now_after now item = now
+
+-- the current time after an item without a fault is that of a time item, or else as before, and isn't earlier
+pub now-now_after : (nets : List Net) (s next : BodyContext) (item : BodyItem) → context_after nets s item ≡ Ok next
+    → (next.now ≡ now_after s.now item) × (s.now ≤ now_after s.now item)
+now-now_after nets s next (time_item line digits) h =
+    let t = context_after-time nets s next line digits h in
+    (t.1, t.2)
+now-now_after nets s next (change line digits code) h = (
+  now-unchanged (fitting nets (length digits) (net_of nets code)) line s next (λ net. s) (λ net. refl) h,
+  omega arith,
+)
+now-now_after nets s next (skipped line code) h = (
+  now-unchanged (fitting nets 0 (net_of nets code)) line s next (λ net. s) (λ net. refl) h,
+  omega arith,
+)
+now-now_after nets s next (dump_section_open line) h = (
+  now-unchanged (opened_at line s.dump_section) line s next
+      (λ dump_section. record s { dump_section = dump_section }) (λ dump_section. refl) h,
+  omega arith,
+)
+now-now_after nets s next (dump_section_end line) h = (
+  now-unchanged (closed s.dump_section) line s next
+      (λ dump_section. record s { dump_section = dump_section }) (λ dump_section. refl) h,
+  omega arith,
+)
+now-now_after nets s next (wrong line kind) h = absurd cc

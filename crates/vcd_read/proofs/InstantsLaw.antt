@@ -14,49 +14,17 @@ use Rattle.vcd_read.specs.declared.dump.Instant.{Instant}
 use Rattle.vcd_read.specs.declared.fault.VcdFault.{VcdFault}
 use Rattle.vcd_read.specs.Contents.{TimesAscend}
 use Rattle.vcd_read.specs.Numbers.{number}
-use Rattle.vcd_read.specs.Header.{Net, net_of}
+use Rattle.vcd_read.specs.Header.{Net}
 use Rattle.vcd_read.specs.Body.{BodyItem, time_item, change, skipped, dump_section_open, dump_section_end, wrong}
-use Rattle.vcd_read.specs.Body.{BodyContext}
-use Rattle.vcd_read.specs.Body.{context_after, fitting, opened_at, closed}
+use Rattle.vcd_read.specs.Body.{context_after}
 use Rattle.vcd_read.specs.Meaning.{NetChange, change_of, changes_from, times_from, last_at, value_of, value_at}
 use Rattle.vcd_read.specs.Meaning.{instant_at, instants_of}
 use Rattle.vcd_read.specs.DumpProgress.{DumpProgress, values_from, advanced, ended, progress_after, DumpState, step}
 use Rattle.vcd_read.specs.DumpProgress.{steps}
 use Rattle.vcd_read.proofs.ResultLemmas.{bind-ok}
-use Rattle.vcd_read.proofs.ContextLemmas.{context_after-time, now-unchanged}
+use Rattle.vcd_read.proofs.ContextLemmas.{now-now_after, now_after}
 
 -- ---- the fold without its faults
-
--- the time after an item
-abbrev now_after : ℕ → BodyItem → ℕ
-now_after now (time_item line digits) = number digits
-now_after now item = now
-
--- the current time after an item without a fault is that of a time item, or else as before, and isn't earlier
-now-now_after : (nets : List Net) (s next : BodyContext) (item : BodyItem) → context_after nets s item ≡ Ok next
-    → (next.now ≡ now_after s.now item) × (s.now ≤ now_after s.now item)
-now-now_after nets s next (time_item line digits) h =
-    let t = context_after-time nets s next line digits h in
-    (t.1, t.2)
-now-now_after nets s next (change line digits code) h = (
-  now-unchanged (fitting nets (length digits) (net_of nets code)) line s next (λ net. s) (λ net. refl) h,
-  omega arith,
-)
-now-now_after nets s next (skipped line code) h = (
-  now-unchanged (fitting nets 0 (net_of nets code)) line s next (λ net. s) (λ net. refl) h,
-  omega arith,
-)
-now-now_after nets s next (dump_section_open line) h = (
-  now-unchanged (opened_at line s.dump_section) line s next
-      (λ dump_section. record s { dump_section = dump_section }) (λ dump_section. refl) h,
-  omega arith,
-)
-now-now_after nets s next (dump_section_end line) h = (
-  now-unchanged (closed s.dump_section) line s next
-      (λ dump_section. record s { dump_section = dump_section }) (λ dump_section. refl) h,
-  omega arith,
-)
-now-now_after nets s next (wrong line kind) h = absurd cc
 
 -- a step without a fault has the context and the progress after its item
 step-parts : (nets : List Net) (s next : DumpState) (item : BodyItem) → step nets s item ≡ Ok next

@@ -1,5 +1,5 @@
 -- The steps of a dump that are still to come are at the last time that was read or later, up to the time at its end.
-use Rattle.std.proofs.Common.{◌≡◌, ℕ, ◌<◌, ◌≤◌, Bool, true, false, cond, ◌&&◌, List, [], ◌∷◌, ◌++◌, length}
+use Rattle.std.proofs.Common.{◌≡◌, ℕ, ◌<◌, ◌≤◌, Bool, true, false, cond, ◌&&◌, List, [], ◌∷◌, ◌++◌}
 use Rattle.std.proofs.Common.{Some, Result, Ok, Err, refl, sym, ap, subst, ◌∙◌, arith}
 use Rattle.std.specs.Prelude.{All, not, ◌==◌}
 use Rattle.std.proofs.lemmas.Bool.Decides.{nat_tests}
@@ -9,15 +9,14 @@ use Rattle.vme_trace.specs.Followed.{with_steps}
 use Rattle.vme_trace.specs.Trace.{Trace}
 use Rattle.vme_trace.specs.declared.step.Step.{Step}
 use Rattle.vcd_read.specs.Bodies.{until_fault}
-use Rattle.vcd_read.specs.Body.{BodyItem, BodyContext, at_the_end, body_from, dump_section_end, dump_section_open}
-use Rattle.vcd_read.specs.Body.{change}
-use Rattle.vcd_read.specs.Body.{closed, fitting, opened_at, skipped, context_after, time_item, wrong}
-use Rattle.vcd_read.specs.Header.{◌>>=◌, Net, net_of}
+use Rattle.vcd_read.specs.Body.{BodyItem, BodyContext, at_the_end, body_from}
+use Rattle.vcd_read.specs.Body.{context_after, time_item, wrong}
+use Rattle.vcd_read.specs.Header.{◌>>=◌, Net}
 use Rattle.vcd_read.specs.Numbers.{number}
 use Rattle.vcd_read.specs.BodyFold.{State, BodyFold, at_end, ended, progress_after, reached_before, state_at, steps}
 use Rattle.vcd_read.specs.Tokens.{tokens_from}
 use Rattle.vcd_read.specs.declared.fault.VcdFault.{VcdFault}
-use Rattle.vcd_read.proofs.ContextLemmas.{context_after-time, now-unchanged}
+use Rattle.vcd_read.proofs.ContextLemmas.{context_after-time, now-now_after}
 use Rattle.vcd_read.proofs.TimeLemmas.{time-advanced}
 use Rattle.vme_bind.specs.BuilderState.{BuilderState, builder_change, builder_instant}
 use Rattle.vme_bind.specs.Recording.{step_between}
@@ -135,23 +134,9 @@ module _ (from : ℕ) where
           made = IsMade-advanced test p (number digits) h.made late
               (lt-end_of_instant p.has_instant (number digits) p.time late);
         }
-    IsAt-item s (change line digits code) next h ok =
-        IsAt-same_time s (after s.progress (change line digits code)) next h refl refl
-        (now-unchanged (fitting nets (length digits) (net_of nets code)) line s.context next (λ net. s.context)
-        (λ net. refl)
-        ok)
-    IsAt-item s (skipped line code) next h ok =
-        IsAt-same_time s s.progress next h refl refl
-        (now-unchanged (fitting nets 0 (net_of nets code)) line s.context next (λ net. s.context) (λ net. refl) ok)
-    IsAt-item s (dump_section_open line) next h ok =
-        IsAt-same_time s s.progress next h refl refl
-        (now-unchanged (opened_at line s.context.dump_section) line s.context next
-        (λ dump_section. record s.context { dump_section = dump_section }) (λ dump_section. refl) ok)
-    IsAt-item s (dump_section_end line) next h ok =
-        IsAt-same_time s s.progress next h refl refl
-        (now-unchanged (closed s.context.dump_section) line s.context next
-        (λ dump_section. record s.context { dump_section = dump_section }) (λ dump_section. refl) ok)
     IsAt-item s (wrong line kind) next h ok = absurd cc
+    IsAt-item s item next h ok =
+        IsAt-same_time s (after s.progress item) next h refl refl (now-now_after nets s.context next item ok).0
 
     -- ---- items
 
