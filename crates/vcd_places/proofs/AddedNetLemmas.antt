@@ -16,13 +16,13 @@ use Rattle.vcd_read.specs.declared.fault.FaultKind.TheVariants.{TooWide}
 use Rattle.vcd_read.specs.declared.fault.VcdFault.{VcdFault}
 use Rattle.vcd_read.specs.Numbers.{extended, number}
 use Rattle.vcd_read.specs.Header.{◌>>=◌, Net, at_line, net_of, size_of}
-use Rattle.vcd_read.specs.Body.{BodyItem, BodyContext, at_the_end, dump_section_end, dump_section_open, change}
+use Rattle.vcd_read.specs.Body.{BodyItem, BodyContext, at_the_end, change}
 use Rattle.vcd_read.specs.Body.{first_context}
 use Rattle.vcd_read.specs.Body.{fitting, skipped, context_after, context_after_all, time_item, wrong}
 use Rattle.vcd_read.specs.Meaning.{NetChange, change_of, changes_from, instant_at, instants_of, last_at, times_from}
 use Rattle.vcd_read.specs.Meaning.{value_at, values_at}
 use Rattle.vcd_read.proofs.CodesLemmas.{net_of-push, net_of-within, size_of-before}
-use Rattle.vcd_read.proofs.ResultLemmas.{bind-ok}
+use Rattle.vcd_read.proofs.ContextLemmas.{context_after_all-first}
 use Rattle.vcd_places.proofs.SkippedLemmas.{instants_in}
 
 -- ---- lists
@@ -108,7 +108,6 @@ module _ (nets : List Net) (code : List ℕ) (size : ℕ) (none : net_of nets co
   -- an item that is read without a fault by `nets` gives the same by `all`
   context_after-all : (s next : BodyContext) (item : BodyItem) → context_after nets s item ≡ Ok next
       → context_after all s item ≡ Ok next
-  context_after-all s next (time_item line digits) e = e
   context_after-all s next (change line digits other) e =
       let found = fitting-has_net (length digits) line (net_of nets other) s next e in
       ap (λ (r : Result ℕ FaultKind). at_line line (r >>= λ net. Ok s))
@@ -117,9 +116,8 @@ module _ (nets : List Net) (code : List ℕ) (size : ℕ) (none : net_of nets co
   context_after-all s next (skipped line other) e =
       let found = fitting-has_net 0 line (net_of nets other) s next e in
       ap (λ (r : Result ℕ FaultKind). at_line line (r >>= λ net. Ok s)) (fitting-all 0 other found.0 found.1) ∙ e
-  context_after-all s next (dump_section_open line) e = e
-  context_after-all s next (dump_section_end line) e = e
   context_after-all s next (wrong line kind) e = absurd cc
+  context_after-all s next item e = e
 
   -- items that are read without a fault by `nets` give the same by `all`
   pub context_after_all-all : (items : List BodyItem) (s end : BodyContext) → context_after_all nets s items ≡ Ok end
@@ -127,7 +125,7 @@ module _ (nets : List Net) (code : List ℕ) (size : ℕ) (none : net_of nets co
   unfolding context_after_all
   context_after_all-all [] s end e = e
   context_after_all-all (item ∷ items) s end e =
-      let read = bind-ok (context_after nets s item) (λ next. context_after_all nets next items) end e in
+      let read = context_after_all-first nets item items s end e in
       ap (λ (r : Result BodyContext VcdFault). r >>= λ next. context_after_all all next items)
       (context_after-all s read.0 item read.1)
       ∙ context_after_all-all items read.0 end read.2
@@ -157,31 +155,18 @@ module _ (nets : List Net) (code : List ℕ) (size : ℕ) (none : net_of nets co
   unfolding changes_from context_after_all
   changes_from-all [] s end now e = refl
   changes_from-all (time_item line digits ∷ items) s end now e =
-      let read = bind-ok (context_after nets s (time_item line digits))
-      (λ next. context_after_all nets next items) end
-      e in
+      let read = context_after_all-first nets (time_item line digits) items s end e in
       changes_from-all items read.0 end (number digits) read.2
   changes_from-all (change line digits other ∷ items) s end now e =
-      let read = bind-ok (context_after nets s (change line digits other))
-      (λ next. context_after_all nets next items)
-      end e in
+      let read = context_after_all-first nets (change line digits other) items s end e in
       let found = fitting-has_net (length digits) line (net_of nets other) s read.0 read.1 in
       ap (λ (c : NetChange). c ∷ changes_from all now items) (change_of-all now digits other found.0 found.1)
       ∙ ap (λ (cs : List NetChange). change_of nets now digits other ∷ cs)
       (changes_from-all items read.0 end now read.2)
-  changes_from-all (skipped line other ∷ items) s end now e =
-      let read = bind-ok (context_after nets s (skipped line other))
-      (λ next. context_after_all nets next items) end e in
-      changes_from-all items read.0 end now read.2
-  changes_from-all (dump_section_open line ∷ items) s end now e =
-      let read = bind-ok (context_after nets s (dump_section_open line)) (λ next. context_after_all nets next items)
-      end e in
-      changes_from-all items read.0 end now read.2
-  changes_from-all (dump_section_end line ∷ items) s end now e =
-      let read = bind-ok (context_after nets s (dump_section_end line)) (λ next. context_after_all nets next items)
-      end e in
-      changes_from-all items read.0 end now read.2
   changes_from-all (wrong line kind ∷ items) s end now e = absurd cc
+  changes_from-all (item ∷ items) s end now e =
+      let read = context_after_all-first nets item items s end e in
+      changes_from-all items read.0 end now read.2
 
   -- ---- the values
 
@@ -192,14 +177,10 @@ module _ (nets : List Net) (code : List ℕ) (size : ℕ) (none : net_of nets co
   unfolding changes_from context_after_all last_at
   last_at-added t [] s end now e = refl
   last_at-added t (time_item line digits ∷ items) s end now e =
-      let read = bind-ok (context_after nets s (time_item line digits))
-      (λ next. context_after_all nets next items) end
-      e in
+      let read = context_after_all-first nets (time_item line digits) items s end e in
       last_at-added t items read.0 end (number digits) read.2
   last_at-added t (change line digits other ∷ items) s end now e =
-      let read = bind-ok (context_after nets s (change line digits other))
-      (λ next. context_after_all nets next items)
-      end e in
+      let read = context_after_all-first nets (change line digits other) items s end e in
       let found = fitting-has_net (length digits) line (net_of nets other) s read.0 read.1 in
       let net : unwrap_or (net_of nets other) 0 ≡ found.0 = ap (λ (o : Option ℕ). unwrap_or o 0) found.1 in
       let other_net : eqb (unwrap_or (net_of nets other) 0) (length nets) ≡ false =
@@ -216,19 +197,10 @@ module _ (nets : List Net) (code : List ℕ) (size : ℕ) (none : net_of nets co
           both_false : (b : Bool) → cond (b && false) (Some c.bits) None ≡ None
           both_false true = refl
           both_false false = refl
-  last_at-added t (skipped line other ∷ items) s end now e =
-      let read = bind-ok (context_after nets s (skipped line other))
-      (λ next. context_after_all nets next items) end e in
-      last_at-added t items read.0 end now read.2
-  last_at-added t (dump_section_open line ∷ items) s end now e =
-      let read = bind-ok (context_after nets s (dump_section_open line)) (λ next. context_after_all nets next items)
-      end e in
-      last_at-added t items read.0 end now read.2
-  last_at-added t (dump_section_end line ∷ items) s end now e =
-      let read = bind-ok (context_after nets s (dump_section_end line)) (λ next. context_after_all nets next items)
-      end e in
-      last_at-added t items read.0 end now read.2
   last_at-added t (wrong line kind ∷ items) s end now e = absurd cc
+  last_at-added t (item ∷ items) s end now e =
+      let read = context_after_all-first nets item items s end e in
+      last_at-added t items read.0 end now read.2
 
   -- the instant at a time is the same by `all`, if the items are read without a fault by `nets`
   instant_at-all : (items : List BodyItem) (end : BodyContext) (t : ℕ)

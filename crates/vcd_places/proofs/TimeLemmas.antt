@@ -6,23 +6,15 @@ use Rattle.std.specs.List.{cons_option}
 use Rattle.std.proofs.lemmas.Bool.{eq-eqb, eqb-true, or_cases, or_right}
 use Rattle.vcd_read.specs.declared.fault.FaultKind.{FaultKind}
 use Rattle.vcd_read.specs.Numbers.{number}
-use Rattle.vcd_read.specs.Header.{◌>>=◌, Net}
-use Rattle.vcd_read.specs.Body.{BodyContext, BodyItem, dump_section_end, dump_section_open, change}
-use Rattle.vcd_read.specs.Body.{context_after, context_after_all, skipped, time_item, wrong}
+use Rattle.vcd_read.specs.Header.{Net}
+use Rattle.vcd_read.specs.Body.{BodyContext, BodyItem, change}
+use Rattle.vcd_read.specs.Body.{context_after_all, time_item, wrong}
 use Rattle.vcd_read.specs.Meaning.{times_from}
-use Rattle.vcd_read.proofs.ResultLemmas.{bind-ok}
-use Rattle.vcd_read.proofs.ContextLemmas.{context_after-time, now-now_after}
+use Rattle.vcd_read.proofs.ContextLemmas.{context_after-time, context_after_all-first, now-now_after}
 use Rattle.vcd_places.specs.Places.{if_time, item_times}
 use Rattle.vcd_places.specs.Times.{IsAscendingFrom, is_among}
 
 module _ (nets : List Net) where
-  -- if `item` and then `items` are read without a fault, there is a context `next` between them
-  context_after_all-first : (item : BodyItem) (items : List BodyItem) (s end : BodyContext)
-      → (context_after nets s item >>= λ next. context_after_all nets next items) ≡ Ok end
-      → (next : BodyContext) × (context_after nets s item ≡ Ok next) × (context_after_all nets next items ≡ Ok end)
-  context_after_all-first item items s end e =
-      bind-ok (context_after nets s item) (λ next. context_after_all nets next items) end e
-
   -- the times of a body don't go back
   pub IsAscendingFrom-item_times : (items : List BodyItem) (s end : BodyContext) → context_after_all nets s items
       ≡ Ok end
@@ -30,7 +22,7 @@ module _ (nets : List Net) where
   unfolding context_after_all item_times
   IsAscendingFrom-item_times [] s end e = tt
   IsAscendingFrom-item_times (time_item line digits ∷ items) s end e =
-      let read = context_after_all-first (time_item line digits) items s end e in
+      let read = context_after_all-first nets (time_item line digits) items s end e in
       let time = context_after-time nets s read.0 line digits read.1 in
       let rest = IsAscendingFrom-item_times items read.0 end read.2 in
       subst (λ (r : Result ℕ FaultKind). IsAscendingFrom s.now (cons_option (if_time r) (item_times items)))
@@ -38,7 +30,7 @@ module _ (nets : List Net) where
       (time.2, subst (λ (n : ℕ). IsAscendingFrom n (item_times items)) time.1 rest)
   IsAscendingFrom-item_times (wrong line kind ∷ items) s end e = absurd cc
   IsAscendingFrom-item_times (item ∷ items) s end e =
-      let read = context_after_all-first item items s end e in
+      let read = context_after_all-first nets item items s end e in
       subst (λ (n : ℕ). IsAscendingFrom n (item_times items)) (now-now_after nets s read.0 item read.1).0
       (IsAscendingFrom-item_times items read.0 end read.2)
 
@@ -57,7 +49,7 @@ module _ (nets : List Net) where
   unfolding context_after_all item_times times_from
   IsKnown-times_from [] s end now time e among = absurd (true≢false (sym among))
   IsKnown-times_from (time_item line digits ∷ items) s end now time e among =
-      let read = context_after_all-first (time_item line digits) items s end e in
+      let read = context_after_all-first nets (time_item line digits) items s end e in
       let n : ℕ = number digits in
       inr (subst (λ (r : Result ℕ FaultKind). is_among time (cons_option (if_time r) (item_times items)) ≡ true)
       (sym (context_after-time nets s read.0 line digits read.1).0)
@@ -69,18 +61,12 @@ module _ (nets : List Net) where
         ]
       ]))
   IsKnown-times_from (change line digits code ∷ items) s end now time e among =
-      let read = context_after_all-first (change line digits code) items s end e in
+      let read = context_after_all-first nets (change line digits code) items s end e in
       elim (or_cases (eqb now time) (is_among time (times_from now items)) among) [
         | inl is ↦ inl (sym (eqb-true now time is))
         | inr later ↦ IsKnown-times_from items read.0 end now time read.2 later
       ]
-  IsKnown-times_from (skipped line code ∷ items) s end now time e among =
-      IsKnown-times_from items (context_after_all-first (skipped line code) items s end e).0 end now time
-      (context_after_all-first (skipped line code) items s end e).2 among
-  IsKnown-times_from (dump_section_open line ∷ items) s end now time e among =
-      IsKnown-times_from items (context_after_all-first (dump_section_open line) items s end e).0 end now time
-      (context_after_all-first (dump_section_open line) items s end e).2 among
-  IsKnown-times_from (dump_section_end line ∷ items) s end now time e among =
-      IsKnown-times_from items (context_after_all-first (dump_section_end line) items s end e).0 end now time
-      (context_after_all-first (dump_section_end line) items s end e).2 among
   IsKnown-times_from (wrong line kind ∷ items) s end now time e among = absurd cc
+  IsKnown-times_from (item ∷ items) s end now time e among =
+      let read = context_after_all-first nets item items s end e in
+      IsKnown-times_from items read.0 end now time read.2 among

@@ -7,7 +7,8 @@ use Rattle.std.proofs.lemmas.Bool.{ltb-false}
 use Rattle.vcd_read.specs.declared.fault.FaultKind.{FaultKind}
 use Rattle.vcd_read.specs.Numbers.{number, time_of}
 use Rattle.vcd_read.specs.Header.{◌>>=◌, at_line, Net, net_of}
-use Rattle.vcd_read.specs.Body.{BodyContext, BodyItem, change, closed, context_after, dump_section_end}
+use Rattle.vcd_read.specs.Body.{BodyContext, BodyItem, change, closed, context_after, context_after_all}
+use Rattle.vcd_read.specs.Body.{dump_section_end}
 use Rattle.vcd_read.specs.Body.{dump_section_open, fitting, opened_at, skipped, time_after, time_item, wrong}
 use Rattle.vcd_read.proofs.ResultLemmas.{bind-ok}
 
@@ -81,3 +82,10 @@ now-now_after nets s next (dump_section_end line) h = (
   omega arith,
 )
 now-now_after nets s next (wrong line kind) h = absurd cc
+
+-- if `item` and then `items` are read without a fault, there is a context `next` between them
+pub context_after_all-first : (nets : List Net) (item : BodyItem) (items : List BodyItem) (s end : BodyContext)
+    → (context_after nets s item >>= λ next. context_after_all nets next items) ≡ Ok end
+    → (next : BodyContext) × (context_after nets s item ≡ Ok next) × (context_after_all nets next items ≡ Ok end)
+context_after_all-first nets item items s end e =
+    bind-ok (context_after nets s item) (λ next. context_after_all nets next items) end e
