@@ -45,11 +45,7 @@ last_time-push : (items : List BodyItem) (now line : ℕ) (digits : List ℕ)
 unfolding last_time
 last_time-push [] now line digits = refl
 last_time-push (time_item l ds ∷ items) now line digits = last_time-push items (number ds) line digits
-last_time-push (change l ds c ∷ items) now line digits = last_time-push items now line digits
-last_time-push (skipped l c ∷ items) now line digits = last_time-push items now line digits
-last_time-push (dump_section_open l ∷ items) now line digits = last_time-push items now line digits
-last_time-push (dump_section_end l ∷ items) now line digits = last_time-push items now line digits
-last_time-push (wrong l kind ∷ items) now line digits = last_time-push items now line digits
+last_time-push (item ∷ items) now line digits = last_time-push items now line digits
 
 -- ---- whole items
 
@@ -66,24 +62,12 @@ time_shape-kind_of (time_shape ds) digits e = ap (λ (kind : BegunKind). elim ki
   | comment_kind ↦ none
   | single_kind ↦ none
 ]) e
-time_shape-kind_of (scalar ds code) digits e = absurd cc
-time_shape-kind_of (vector ds) digits e = absurd cc
-time_shape-kind_of foreign digits e = absurd cc
-time_shape-kind_of comment digits e = absurd cc
-time_shape-kind_of open_shape digits e = absurd cc
-time_shape-kind_of end_shape digits e = absurd cc
-time_shape-kind_of none digits e = absurd cc
+time_shape-kind_of shape digits e = absurd cc
 
 -- a shape whose kind is a comment is a comment
 comment-kind_of : (shape : Shape) → kind_of shape ≡ comment_kind → shape ≡ comment
-comment-kind_of (time_shape ds) e = absurd cc
-comment-kind_of (scalar ds code) e = absurd cc
-comment-kind_of (vector ds) e = absurd cc
-comment-kind_of foreign e = absurd cc
 comment-kind_of comment e = refl
-comment-kind_of open_shape e = absurd cc
-comment-kind_of end_shape e = absurd cc
-comment-kind_of none e = absurd cc
+comment-kind_of shape e = absurd cc
 
 module _ (t : Token) where
   -- a token that is a time is read as a time item
@@ -110,14 +94,10 @@ module _ (t : Token) where
   -- a token whose shape is of a single token is an item by itself
   IsSingle-shape_of : (shape : Shape) → shape ≡ shape_of t.bytes → kind_of shape ≡ single_kind
       → (item : BodyItem) × IsSingle item
-  IsSingle-shape_of (time_shape ds) e is = absurd cc
   IsSingle-shape_of (scalar ds code) e is = (
     change t.line ds code,
     record { no_time = refl; read = λ ts. body_from-shape t ts (scalar ds code) e },
   )
-  IsSingle-shape_of (vector ds) e is = absurd cc
-  IsSingle-shape_of foreign e is = absurd cc
-  IsSingle-shape_of comment e is = absurd cc
   IsSingle-shape_of open_shape e is = (
     dump_section_open t.line,
     record { no_time = refl; read = λ ts. body_from-shape t ts open_shape e },
@@ -127,6 +107,7 @@ module _ (t : Token) where
     record { no_time = refl; read = λ ts. body_from-shape t ts end_shape e },
   )
   IsSingle-shape_of none e is = (wrong t.line _, record { no_time = refl; read = λ ts. body_from-shape t ts none e })
+  IsSingle-shape_of shape e is = absurd cc
 
   -- a token whose shape is of a single token is an item without a time
   pub IsItem-single : kind_of (shape_of t.bytes) ≡ single_kind → IsItem (t ∷ []) []
@@ -149,8 +130,6 @@ module _ (t : Token) where
   -- a token whose shape asks for a code has its code in the next token
   HasCode-shape_of : (shape : Shape) → shape ≡ shape_of t.bytes → kind_of shape ≡ code_kind → HasCode
   unfolding body_from item_times
-  HasCode-shape_of (time_shape ds) e is = absurd cc
-  HasCode-shape_of (scalar ds code) e is = absurd cc
   HasCode-shape_of (vector ds) e is = record {
     item = λ code. change t.line ds code;
     no_time = λ code. refl;
@@ -163,10 +142,7 @@ module _ (t : Token) where
     read = λ u ts. body_from-shape t (u ∷ ts) foreign e;
     alone = ap item_times (body_from-shape t [] foreign e);
   }
-  HasCode-shape_of comment e is = absurd cc
-  HasCode-shape_of open_shape e is = absurd cc
-  HasCode-shape_of end_shape e is = absurd cc
-  HasCode-shape_of none e is = absurd cc
+  HasCode-shape_of shape e is = absurd cc
 
   -- a token whose shape asks for a code, and its code, are an item without a time
   pub IsItem-code : (u : Token) → kind_of (shape_of t.bytes) ≡ code_kind → IsItem (t ∷ u ∷ []) []

@@ -9,9 +9,9 @@ use Rattle.vcd_read.specs.declared.fault.FaultKind.TheVariants.{TooWide}
 use Rattle.vcd_read.specs.declared.fault.VcdFault.{VcdFault}
 use Rattle.vcd_read.specs.Numbers.{number}
 use Rattle.vcd_read.specs.Header.{◌>>=◌, Net, at_line, net_of, size_of}
-use Rattle.vcd_read.specs.Body.{BodyItem, BodyContext, at_the_end, dump_section_end, dump_section_open, change}
+use Rattle.vcd_read.specs.Body.{BodyItem, BodyContext, at_the_end, change}
 use Rattle.vcd_read.specs.Body.{first_context}
-use Rattle.vcd_read.specs.Body.{fitting, skipped, context_after, context_after_all, time_item, wrong}
+use Rattle.vcd_read.specs.Body.{fitting, skipped, context_after, context_after_all, time_item}
 use Rattle.vcd_read.specs.Meaning.{NetChange, change_of, changes_from, instant_at, instants_of, times_from}
 use Rattle.vcd_read.proofs.ResultLemmas.{bind-same}
 
@@ -50,10 +50,7 @@ module _ (nets : List Net) (line net : ℕ) (code : List ℕ) (is : net_of nets 
   changes_from-skipped (time_item l digits ∷ xs) ys now = changes_from-skipped xs ys (number digits)
   changes_from-skipped (change l digits c ∷ xs) ys now =
       ap (λ (cs : List NetChange). change_of nets now digits c ∷ cs) (changes_from-skipped xs ys now)
-  changes_from-skipped (skipped l c ∷ xs) ys now = changes_from-skipped xs ys now
-  changes_from-skipped (dump_section_open l ∷ xs) ys now = changes_from-skipped xs ys now
-  changes_from-skipped (dump_section_end l ∷ xs) ys now = changes_from-skipped xs ys now
-  changes_from-skipped (wrong l kind ∷ xs) ys now = changes_from-skipped xs ys now
+  changes_from-skipped (x ∷ xs) ys now = changes_from-skipped xs ys now
 
   -- a skipped item among others doesn't alter their times
   pub times_from-skipped : (xs ys : List BodyItem) (now : ℕ)
@@ -63,10 +60,7 @@ module _ (nets : List Net) (line net : ℕ) (code : List ℕ) (is : net_of nets 
   times_from-skipped (time_item l digits ∷ xs) ys now =
       ap (λ (ts : List ℕ). number digits ∷ ts) (times_from-skipped xs ys (number digits))
   times_from-skipped (change l digits c ∷ xs) ys now = ap (λ (ts : List ℕ). now ∷ ts) (times_from-skipped xs ys now)
-  times_from-skipped (skipped l c ∷ xs) ys now = times_from-skipped xs ys now
-  times_from-skipped (dump_section_open l ∷ xs) ys now = times_from-skipped xs ys now
-  times_from-skipped (dump_section_end l ∷ xs) ys now = times_from-skipped xs ys now
-  times_from-skipped (wrong l kind ∷ xs) ys now = times_from-skipped xs ys now
+  times_from-skipped (x ∷ xs) ys now = times_from-skipped xs ys now
 
   -- a skipped item among others doesn't alter their instants
   pub instants_of-skipped : (xs ys : List BodyItem)

@@ -8,7 +8,7 @@ use Rattle.vcd_read.specs.Tokens.{Token, is_space, tokens}
 use Rattle.vcd_read.specs.Numbers.{time_of}
 use Rattle.vcd_read.specs.declared.fault.FaultKind.{FaultKind}
 use Rattle.vcd_read.specs.Header.{HeaderItem, whole, unfinished, stray, between, header_from}
-use Rattle.vcd_read.specs.Body.{BodyItem, time_item, change, skipped, dump_section_open, dump_section_end, wrong, ready}
+use Rattle.vcd_read.specs.Body.{BodyItem, time_item, ready}
 use Rattle.vcd_read.specs.Body.{body_from}
 use Rattle.vcd_read.specs.Meaning.{last_time}
 
@@ -59,11 +59,7 @@ if_time (Err kind) = None
 -- the time of a time item, if it is below 2^64
 abbrev pub item_time : BodyItem → Option ℕ
 item_time (time_item line digits) = if_time (time_of digits)
-item_time (change line digits code) = None
-item_time (skipped line code) = None
-item_time (dump_section_open line) = None
-item_time (dump_section_end line) = None
-item_time (wrong line kind) = None
+item_time item = None
 
 -- the times below 2^64 of the time items, in their order
 unfoldable pub item_times : List BodyItem → List ℕ

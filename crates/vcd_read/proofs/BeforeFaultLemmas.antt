@@ -8,7 +8,7 @@ use Rattle.vcd_read.specs.declared.fault.VcdFault.{VcdFault}
 use Rattle.vcd_read.specs.Contents.{TimesAscend}
 use Rattle.vcd_read.specs.Numbers.{number}
 use Rattle.vcd_read.specs.Header.{◌>>=◌, Net}
-use Rattle.vcd_read.specs.Body.{BodyItem, time_item, change, skipped, dump_section_open, dump_section_end, wrong}
+use Rattle.vcd_read.specs.Body.{BodyItem, time_item, change}
 use Rattle.vcd_read.specs.Body.{BodyContext}
 use Rattle.vcd_read.specs.Body.{first_context, context_after}
 use Rattle.vcd_read.specs.Meaning.{instants_of, items_before_fault}
@@ -74,10 +74,7 @@ Starts-item : (nets : List Net) (p : DumpProgress) (item : BodyItem) → Starts 
 Starts-item nets p (time_item line digits) h = Starts-time (p.has_instant && not (number digits == p.time)) p
     (number digits)
 Starts-item nets p (change line digits code) h = λ e. absurd (cc e)
-Starts-item nets p (skipped line code) h = h
-Starts-item nets p (dump_section_open line) h = h
-Starts-item nets p (dump_section_end line) h = h
-Starts-item nets p (wrong line kind) h = h
+Starts-item nets p item h = h
 
 -- an item, and then items that keep `Starts` up to their first fault, keep it so
 Starts-state_before_fault_item : (nets : List Net) (s : DumpState) (item : BodyItem) (items : List BodyItem)

@@ -10,7 +10,7 @@ use Rattle.vcd_read.specs.declared.fault.VcdFault.{VcdFault}
 use Rattle.vcd_read.specs.Tokens.{Token}
 use Rattle.vcd_read.specs.Numbers.{number, extended}
 use Rattle.vcd_read.specs.Header.{◌>>=◌, at_line, Net, net_of, size_of}
-use Rattle.vcd_read.specs.Body.{BodyItem, time_item, change, skipped, dump_section_open, dump_section_end, wrong}
+use Rattle.vcd_read.specs.Body.{BodyItem, time_item, change}
 use Rattle.vcd_read.specs.Body.{BodyContext}
 use Rattle.vcd_read.specs.Body.{context_after, at_the_end, fitting, ready, body_from}
 use Rattle.vcd_read.specs.Meaning.{ReadFails, ReadFailsAs, instants_from}
@@ -123,10 +123,7 @@ module _ {A : Type 0} (with_change : A → ℕ → List Bit → A) (with_instant
         on_change p.done p.current a net bits
             (net_of-within nets code (fitting-some nets (length digits) line (net_of nets code) s next ok)) r,
       )
-  Keeps-item (skipped line code) s next p a ok r = (a, refl, r)
-  Keeps-item (dump_section_open line) s next p a ok r = (a, refl, r)
-  Keeps-item (dump_section_end line) s next p a ok r = (a, refl, r)
-  Keeps-item (wrong line kind) s next p a ok r = (a, refl, r)
+  Keeps-item item s next p a ok r = (a, refl, r)
 
   -- the state of the reading with the progress `p`, if the context is no fault
   abbrev whole_of : DumpProgress → Result BodyContext VcdFault → Result Whole VcdFault

@@ -44,13 +44,7 @@ pub body_from-shape : (t : Token) (ts : List Token) (shape : Shape) → shape �
     ≡ items_of shape t.line ts
 unfolding body_from
 body_from-shape t ts (time_shape digits) e = rw (body_from, ← e) refl
-body_from-shape t ts (scalar digits code) e = rw (body_from, ← e) refl
-body_from-shape t ts (vector digits) e = rw (body_from, ← e) refl
-body_from-shape t ts foreign e = rw (body_from, ← e) refl
-body_from-shape t ts comment e = rw (body_from, ← e) refl
-body_from-shape t ts open_shape e = rw (body_from, ← e) refl
-body_from-shape t ts end_shape e = rw (body_from, ← e) refl
-body_from-shape t ts none e = rw (body_from, ← e) refl
+body_from-shape t ts shape e = rw (body_from, ← e) refl
 
 -- after the digits of a vector, the next token is the code whose value they are
 pub body_from-vector_code : (line : ℕ) (digits : List ℕ) (before ts : List Token) (t : Token) → before ≡ t ∷ ts
@@ -342,6 +336,4 @@ module _ {A : Type 0} (with_change : A → ℕ → List Bit → A) (with_instant
   unfolding steps body_from
   finished-ok nets timed dump_section Ready e = ap (λ (b : Option ℕ). finished with_change with_instant nets timed b
       ready) e
-  finished-ok nets timed dump_section (Vector digits) e = absurd (cc e)
-  finished-ok nets timed dump_section (Foreign at) e = absurd (cc e)
-  finished-ok nets timed dump_section (Comment at) e = absurd (cc e)
+  finished-ok nets timed dump_section place e = absurd (cc e)

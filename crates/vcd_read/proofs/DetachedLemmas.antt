@@ -109,10 +109,7 @@ module _ {A : Type 0} (with_change : A → ℕ → List Bit → A) (with_instant
         r
     item-keeps p (change line digits code) r = on_change p.accumulator (unwrap_or (net_of nets code) 0)
         (extended (size_of nets (unwrap_or (net_of nets code) 0)) digits) r
-    item-keeps p (skipped line code) r = r
-    item-keeps p (dump_section_open line) r = r
-    item-keeps p (dump_section_end line) r = r
-    item-keeps p (wrong line kind) r = r
+    item-keeps p item r = r
 
     -- if items that are read without a fault keep `R` from each state, they do from the context `stood` and the
     -- progress `p`
@@ -214,9 +211,7 @@ module _ {A : Type 0} (with_change : A → ℕ → List Bit → A) (with_instant
     pub AreWhole-all : (ts : List Token) (place : BodyPlace) → AreWhole place ts
     unfolding body_from steps
     AreWhole-all [] ready s end h = refl
-    AreWhole-all [] (code_of_vector line digits) s end h = absurd cc
-    AreWhole-all [] (code_of_foreign line) s end h = absurd cc
-    AreWhole-all [] (in_comment line) s end h = absurd cc
+    AreWhole-all [] place s end h = absurd cc
     AreWhole-all (t ∷ ts) ready s end h =
         let here = body_from-shape t ts (shape_of t.bytes) refl in
         body_from-shape t (ts ++ more) (shape_of t.bytes) refl
@@ -321,10 +316,7 @@ module _ {A B : Type 0} (with_change : A → ℕ → List Bit → A) (with_insta
         ap (λ (b : B). record { accumulator = b; time = p.time; has_instant = true })
         (sym (on_change p.accumulator (unwrap_or (net_of nets code) 0)
         (extended (size_of nets (unwrap_or (net_of nets code) 0)) digits)))
-    learned_fold-progress_after p (skipped line code) = refl
-    learned_fold-progress_after p (dump_section_open line) = refl
-    learned_fold-progress_after p (dump_section_end line) = refl
-    learned_fold-progress_after p (wrong line kind) = refl
+    learned_fold-progress_after p item = refl
 
     -- if what items give can be learned from each state, it can from the context `stood` and the progress `p`
     steps-learned_after_context : (items : List BodyItem) (p : BodyFold A) (stood : Result BodyContext VcdFault)

@@ -15,7 +15,7 @@ use Rattle.vcd_read.specs.declared.fault.VcdFault.{VcdFault}
 use Rattle.vcd_read.specs.Contents.{TimesAscend}
 use Rattle.vcd_read.specs.Numbers.{number}
 use Rattle.vcd_read.specs.Header.{Net}
-use Rattle.vcd_read.specs.Body.{BodyItem, time_item, change, skipped, dump_section_open, dump_section_end, wrong}
+use Rattle.vcd_read.specs.Body.{BodyItem, time_item, change}
 use Rattle.vcd_read.specs.Body.{context_after}
 use Rattle.vcd_read.specs.Meaning.{NetChange, change_of, changes_from, times_from, last_at, value_of, value_at}
 use Rattle.vcd_read.specs.Meaning.{instant_at, instants_of}
@@ -229,10 +229,7 @@ applied-later nets (time_item line digits ∷ items) now t current up lt = appli
 applied-later nets (change line digits code ∷ items) now t current up lt =
     ap (applied t (changes_from nets now items)) (cond-false (eqb now t) _ current (eqb-earlier now t lt))
     ∙ applied-later nets items now t current up.1 lt
-applied-later nets (skipped line code ∷ items) now t current up lt = applied-later nets items now t current up.1 lt
-applied-later nets (dump_section_open line ∷ items) now t current up lt = applied-later nets items now t current up.1 lt
-applied-later nets (dump_section_end line ∷ items) now t current up lt = applied-later nets items now t current up.1 lt
-applied-later nets (wrong line kind ∷ items) now t current up lt = applied-later nets items now t current up.1 lt
+applied-later nets (item ∷ items) now t current up lt = applied-later nets items now t current up.1 lt
 
 -- two functions that agree at all times after `first` agree at the times of the items after `now`
 map-distinct_after : (f g : ℕ → Instant) (items : List BodyItem) (first now : ℕ) → Ascends now items → first ≤ now
@@ -254,16 +251,7 @@ map-distinct_after f g (time_item line digits ∷ items) first now up le same =
 map-distinct_after f g (change line digits code ∷ items) first now up le same =
     let o = distinct_after-now now (times_from now items) in
     ap (map f) o ∙ map-distinct_after f g items first now up.1 le same ∙ sym (ap (map g) o)
-map-distinct_after f g (skipped line code ∷ items) first now up le same = map-distinct_after f g items first now up.1 le
-    same
-map-distinct_after f g (dump_section_open line ∷ items) first now up le same = map-distinct_after f g items first now
-    up.1 le
-    same
-map-distinct_after f g (dump_section_end line ∷ items) first now up le same = map-distinct_after f g items first now
-    up.1 le
-    same
-map-distinct_after f g (wrong line kind ∷ items) first now up le same = map-distinct_after f g items first now up.1 le
-    same
+map-distinct_after f g (item ∷ items) first now up le same = map-distinct_after f g items first now up.1 le same
 
 -- ---- the fold
 
@@ -376,14 +364,7 @@ ended-with_instant nets (change line digits code ∷ items) done now current len
     (length-set current c.net (Some c.bits) ∙ len)
     up.1
     ∙ ap (λ (is : List Instant). done ++ is) (instants_at-change nets items now current c refl up.1)
-ended-with_instant nets (skipped line code ∷ items) done now current len up = ended-with_instant nets items done now
-    current len up.1
-ended-with_instant nets (dump_section_open line ∷ items) done now current len up = ended-with_instant nets items done
-    now current len up.1
-ended-with_instant nets (dump_section_end line ∷ items) done now current len up = ended-with_instant nets items done now
-    current len up.1
-ended-with_instant nets (wrong line kind ∷ items) done now current len up = ended-with_instant nets items done now
-    current len up.1
+ended-with_instant nets (item ∷ items) done now current len up = ended-with_instant nets items done now current len up.1
 
 -- the fold from a start without an instant gives the instants of all distinct times
 ended-from_start : (nets : List Net) (items : List BodyItem) (now : ℕ) → Ascends now items
@@ -406,10 +387,7 @@ ended-from_start nets (change line digits code ∷ items) now up =
     ∙ instants_at-change nets items now none c refl up.1
     ∙ ap (map (instant_from_none (length nets) (c ∷ changes_from nets now items)))
     (ap (λ (ts : List ℕ). now ∷ ts) (distinct_after-now now times) ∙ sym (dedup-distinct_after now times))
-ended-from_start nets (skipped line code ∷ items) now up = ended-from_start nets items now up.1
-ended-from_start nets (dump_section_open line ∷ items) now up = ended-from_start nets items now up.1
-ended-from_start nets (dump_section_end line ∷ items) now up = ended-from_start nets items now up.1
-ended-from_start nets (wrong line kind ∷ items) now up = ended-from_start nets items now up.1
+ended-from_start nets (item ∷ items) now up = ended-from_start nets items now up.1
 
 -- ---- the times ascend
 
@@ -452,14 +430,7 @@ IsStrictlyIncreasing-distinct_after (change line digits code ∷ items) now up =
     ≡ now ∷ distinct_after now (now ∷ times_from now items) = ap
     (λ (ts : List ℕ). now ∷ ts) (sym (distinct_after-now now (times_from now items))) in
     subst IsStrictlyIncreasing same (IsStrictlyIncreasing-distinct_after items now up.1)
-IsStrictlyIncreasing-distinct_after (skipped line code ∷ items) now up = IsStrictlyIncreasing-distinct_after items now
-    up.1
-IsStrictlyIncreasing-distinct_after (dump_section_open line ∷ items) now up = IsStrictlyIncreasing-distinct_after items
-    now up.1
-IsStrictlyIncreasing-distinct_after (dump_section_end line ∷ items) now up = IsStrictlyIncreasing-distinct_after items
-    now up.1
-IsStrictlyIncreasing-distinct_after (wrong line kind ∷ items) now up = IsStrictlyIncreasing-distinct_after items now
-    up.1
+IsStrictlyIncreasing-distinct_after (item ∷ items) now up = IsStrictlyIncreasing-distinct_after items now up.1
 
 -- the distinct times of items ascend, if no time goes back
 IsStrictlyIncreasing-dedup : (items : List BodyItem) (now : ℕ) → Ascends now items → IsStrictlyIncreasing
@@ -471,10 +442,7 @@ IsStrictlyIncreasing-dedup (time_item line digits ∷ items) now up = subst IsSt
     (IsStrictlyIncreasing-distinct_after items (number digits) up.1)
 IsStrictlyIncreasing-dedup (change line digits code ∷ items) now up = subst IsStrictlyIncreasing
     (sym (dedup-distinct_after now (times_from now items))) (IsStrictlyIncreasing-distinct_after items now up.1)
-IsStrictlyIncreasing-dedup (skipped line code ∷ items) now up = IsStrictlyIncreasing-dedup items now up.1
-IsStrictlyIncreasing-dedup (dump_section_open line ∷ items) now up = IsStrictlyIncreasing-dedup items now up.1
-IsStrictlyIncreasing-dedup (dump_section_end line ∷ items) now up = IsStrictlyIncreasing-dedup items now up.1
-IsStrictlyIncreasing-dedup (wrong line kind ∷ items) now up = IsStrictlyIncreasing-dedup items now up.1
+IsStrictlyIncreasing-dedup (item ∷ items) now up = IsStrictlyIncreasing-dedup items now up.1
 
 -- if `f` makes an instant at each time, the instants that it makes at these times have these times
 map_time-map : (f : ℕ → Instant) → ((t : ℕ) → (f t).time ≡ t) → (times : List ℕ) → map (λ (i : Instant). i.time)

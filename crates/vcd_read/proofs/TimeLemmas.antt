@@ -6,7 +6,7 @@ use Rattle.vcd_read.specs.declared.dump.Bit.{Bit}
 use Rattle.vcd_read.specs.declared.fault.VcdFault.{VcdFault}
 use Rattle.vcd_read.specs.Numbers.{number}
 use Rattle.vcd_read.specs.Header.{◌>>=◌, Net}
-use Rattle.vcd_read.specs.Body.{BodyItem, time_item, change, skipped, dump_section_open, dump_section_end, wrong}
+use Rattle.vcd_read.specs.Body.{BodyItem, time_item}
 use Rattle.vcd_read.specs.Body.{BodyContext}
 use Rattle.vcd_read.specs.Body.{context_after}
 use Rattle.vcd_read.specs.Meaning.{items_before_fault, last_time}
@@ -32,11 +32,7 @@ module _ {A : Type 0} (with_change : A → ℕ → List Bit → A) (with_instant
   unfolding last_time
   last_time-item p (time_item line digits) items = ap (λ (t : ℕ). last_time t items)
       (time-advanced (p.has_instant && not (number digits == p.time)) p (number digits))
-  last_time-item p (change line digits code) items = refl
-  last_time-item p (skipped line code) items = refl
-  last_time-item p (dump_section_open line) items = refl
-  last_time-item p (dump_section_end line) items = refl
-  last_time-item p (wrong line kind) items = refl
+  last_time-item p item items = refl
 
   -- the state with the progress `p`, if the context is no fault
   abbrev state_of : BodyFold A → Result BodyContext VcdFault → Result (State A) VcdFault

@@ -26,14 +26,9 @@ same_level-refl Unknown = refl
 -- levels that the test finds the same are the same
 pub same_level-is : (a b : Level) → same_level a b ≡ true → a ≡ b
 same_level-is Low Low h = refl
-same_level-is Low High h = absurd cc
-same_level-is Low Unknown h = absurd cc
-same_level-is High Low h = absurd cc
 same_level-is High High h = refl
-same_level-is High Unknown h = absurd cc
-same_level-is Unknown Low h = absurd cc
-same_level-is Unknown High h = absurd cc
 same_level-is Unknown Unknown h = refl
+same_level-is a b h = absurd cc
 
 -- a line on which `a` and `b` don't differ has one level
 pub same_unless_differs : (a b : Levels) (l : ℕ) → differs a b l ≡ false → level_at a l ≡ level_at b l

@@ -6,7 +6,7 @@ use Rattle.std.proofs.Common.{ap, ◌∙◌, ◌++◌, arith, subst}
 use Rattle.std.proofs.lemmas.List.{append-nil}
 use Rattle.vme_trace.specs.Trace.{Trace}
 use Rattle.vme_trace.specs.WellFormed.{malformed_step}
-use Rattle.vcd_read.specs.Body.{BodyItem, BodyPlace, ready, code_of_vector, code_of_foreign, in_comment, body_from}
+use Rattle.vcd_read.specs.Body.{BodyItem, BodyPlace, ready, body_from}
 use Rattle.vcd_read.specs.Bodies.{StoppedAs, UntilFault, until_fault}
 use Rattle.vcd_read.specs.Fronts.{going_on}
 use Rattle.vcd_read.specs.Header.{◌>>=◌, Net}
@@ -69,9 +69,7 @@ pub reached_before-no_tokens : (nets : List Net) (timed : BodyFold BuilderState)
     ≡ timed
 unfolding reached_before body_from
 reached_before-no_tokens nets timed dump_section ready = refl
-reached_before-no_tokens nets timed dump_section (code_of_vector line digits) = refl
-reached_before-no_tokens nets timed dump_section (code_of_foreign line) = refl
-reached_before-no_tokens nets timed dump_section (in_comment line) = refl
+reached_before-no_tokens nets timed dump_section place = refl
 
 -- a fault at the end of the text is the fault of the reading
 pub StopsAs-at_end : (line : ℕ) (kind : FaultKind) (made : BuilderState) (recorded : Trace) (time : ℕ)

@@ -8,7 +8,6 @@ use Rattle.vme_trace.specs.Levels.{same_level}
 use Rattle.vme_trace.specs.LineNumbers.{has_line, line_count}
 use Rattle.vme_trace.specs.Trace.{Trace}
 use Rattle.vme_trace.specs.declared.level.Level.{Level}
-use Rattle.vme_trace.specs.declared.level.Level.TheVariants.{Low, High, Unknown}
 use Rattle.vme_trace.proofs.Ranges.{fails-any, those-none}
 use Rattle.vcd_read.specs.Contents.{Contents}
 use Rattle.vcd_read.specs.Header.{◌>>=◌}
@@ -24,6 +23,7 @@ use Rattle.vme_bind.specs.declared.assignment.Assignment.{Assignment}
 use Rattle.vme_bind.specs.declared.fault.BindFault.{BindFault}
 use Rattle.vme_bind.specs.declared.source.LevelSource.{LevelSource}
 use Rattle.vme_bind.specs.declared.source.LevelSource.TheVariants.{Constant, Variable as Named}
+use Rattle.vme_bind.proofs.RecorderLemmas.{same_level-refl}
 use Rattle.vme_find.specs.Constants.{BindsConstants, is_constant}
 use Rattle.vme_declarations.specs.Dumps.{IsDump}
 use Rattle.vme_find.specs.Recordings.{MakesRecording}
@@ -79,12 +79,6 @@ AllKeepLevels-constants vs (a ∷ as') e =
     by_source (Named named) is constant more = let bad = rw is at constant in cc
 
 -- ---- no line changes
-
--- a level is the same as itself
-same_level-refl : (level : Level) → same_level level level ≡ true
-same_level-refl Low = refl
-same_level-refl High = refl
-same_level-refl Unknown = refl
 
 module _ (slots : ℕ) (all : List BoundGroupType) (instants : List Instant) where
   -- the level of a line by its source among groups that keep their levels is the same after any number of instants
