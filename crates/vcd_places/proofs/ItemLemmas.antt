@@ -16,7 +16,7 @@ use Rattle.vcd_read.specs.Body.{comment, end_shape, foreign, in_comment, none, o
 use Rattle.vcd_read.specs.Body.{scalar}
 use Rattle.vcd_read.specs.Body.{shape_of, skipped, time_item, time_shape, vector, wrong}
 use Rattle.vcd_read.specs.Meaning.{last_time}
-use Rattle.vcd_read.proofs.BodyLemmas.{body_from-shape}
+use Rattle.vcd_read.proofs.BodyLemmas.{body_from-shape, commented}
 use Rattle.vcd_places.specs.Items.{BegunKind, code_kind, comment_kind, kind_of, single_kind, time_kind}
 use Rattle.vcd_places.specs.Places.{AreWholeItems, IsAtTime, body_in, starts_at_boundary}
 use Rattle.vcd_places.specs.Places.{if_time, item_time}
@@ -163,13 +163,6 @@ module _ (t : Token) where
   body_from-comment : kind_of (shape_of t.bytes) ≡ comment_kind → (ts : List Token)
       → body_from ready (t ∷ ts) ≡ body_from (in_comment t.line) ts
   body_from-comment is ts = body_from-shape t ts comment (sym (comment-kind_of (shape_of t.bytes) is))
-
--- the items from a token of a comment on, where `test` is whether it is `$end`, and `ts` are the tokens after it
-abbrev commented : ℕ → List Token → Bool → List BodyItem
-commented line ts test = elim test as (λ _. List BodyItem) [
-  | true ↦ body_from ready ts
-  | false ↦ body_from (in_comment line) ts
-]
 
 -- a comment ends at the first `$end`, and items follow
 body_from-comment_ended : (line : ℕ) (words : List Token) (last : Token) (more : List Token)

@@ -59,19 +59,18 @@ pub body_from-foreign_code : (line : ℕ) (before ts : List Token) (t : Token) �
 unfolding body_from
 body_from-foreign_code line before ts t cut = ap (body_from (code_of_foreign line)) cut
 
+-- the items from a token of a comment on, where `test` is whether it is `$end`, and `ts` are the tokens after it
+abbrev pub commented : ℕ → List Token → Bool → List BodyItem
+commented line ts test = elim test as (λ _. List BodyItem) [
+  | true ↦ body_from ready ts
+  | false ↦ body_from (in_comment line) ts
+]
+
 -- a token in a comment ends it, if `test` holds, or is part of it
 body_from-in_comment : (line : ℕ) (t : Token) (ts : List Token) (test : Bool) → is_end t.bytes ≡ test
-    → body_from (in_comment line) (t ∷ ts) ≡ elim test [
-      | true ↦ body_from ready ts
-      | false ↦ body_from (in_comment line)
-          ts
-    ]
+    → body_from (in_comment line) (t ∷ ts) ≡ commented line ts test
 unfolding body_from
-body_from-in_comment line t ts test e = ap (λ (b : Bool). elim b [
-  | true ↦ body_from ready ts
-  | false ↦ body_from
-      (in_comment line) ts
-]) e
+body_from-in_comment line t ts test e = ap (commented line ts) e
 
 -- the token `$end` ends a comment
 pub body_from-comment_end : (line : ℕ) (before ts : List Token) (t : Token) → before ≡ t ∷ ts → is_end t.bytes ≡ true

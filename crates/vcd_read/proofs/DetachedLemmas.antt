@@ -25,7 +25,7 @@ use Rattle.vcd_read.specs.BodyFold.{BodyFold, State, advanced, progress_after, r
 use Rattle.vcd_read.specs.Reached.{Reached, rest_of}
 use Rattle.vcd_read.specs.DetachedPieces.{MayFollow, IsReadDetached, ReadDetached, before_piece, behind_piece, ended_at}
 use Rattle.vcd_read.specs.DetachedPieces.{entered, detached_items, time_first, with_taken}
-use Rattle.vcd_read.proofs.BodyLemmas.{items_of, body_from-shape}
+use Rattle.vcd_read.proofs.BodyLemmas.{commented, items_of, body_from-shape}
 
 -- ---- the time that a piece begins with
 
@@ -193,17 +193,8 @@ module _ {A : Type 0} (with_change : A → ℕ → List Bit → A) (with_instant
     -- after them is read as if it were alone
     in_comment-append : (test : Bool) (line : ℕ) (ts : List Token) (s end : State A)
         → ((place : BodyPlace) → AreWhole place ts)
-        → steps with_change with_instant nets s (elim test as (λ _. List BodyItem) [
-          | true ↦ body_from ready ts
-          | false ↦ body_from (in_comment line) ts
-        ]) ≡ Ok end
-        → elim test as (λ _. List BodyItem) [
-          | true ↦ body_from ready (ts ++ more)
-          | false ↦ body_from (in_comment line)
-              (ts ++ more)
-        ]
-        ≡ elim test as (λ _. List BodyItem) [ true ↦ body_from ready ts | false ↦ body_from (in_comment line) ts ]
-        ++ body_from ready more
+        → steps with_change with_instant nets s (commented line ts test) ≡ Ok end
+        → commented line (ts ++ more) test ≡ commented line ts test ++ body_from ready more
     in_comment-append true line ts s end rest h = rest ready s end h
     in_comment-append false line ts s end rest h = rest (in_comment line) s end h
 
