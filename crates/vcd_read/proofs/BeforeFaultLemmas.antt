@@ -25,8 +25,15 @@ state_before_fault nets s (item ∷ items) = elim (step nets s item) [
 ]
 
 -- the state with the progress `p`, if the context is no fault
-abbrev with_progress : DumpProgress → Result BodyContext VcdFault → Result DumpState VcdFault
+abbrev pub with_progress : DumpProgress → Result BodyContext VcdFault → Result DumpState VcdFault
 with_progress p r = r >>= λ next. Ok (record { context = next; progress = p })
+
+-- the state before the first fault of `items` from the state `r` on, or `s` where `r` is a fault
+abbrev pub state_reached_after : List Net → DumpState → List BodyItem → Result DumpState VcdFault → DumpState
+state_reached_after nets s items r = elim r as (λ _. DumpState) [
+  | Ok next ↦ state_before_fault nets next items
+  | Err fault ↦ s
+]
 
 -- ---- the items before the first fault have no fault
 
@@ -39,10 +46,7 @@ steps-items_before_fault_item : (nets : List Net) (s : DumpState) (item : BodyIt
       | Ok next ↦ item ∷ items_before_fault nets next items
       | Err fault ↦ []
     ])
-    ≡ Ok (elim (with_progress (progress_after nets s.progress item) stood) [
-      | Ok next ↦ state_before_fault nets next items
-      | Err fault ↦ s
-    ])
+    ≡ Ok (state_reached_after nets s items (with_progress (progress_after nets s.progress item) stood))
 unfolding steps
 steps-items_before_fault_item nets s item items (Ok next) e rest =
     rw e (rest (record { context = next; progress = progress_after nets s.progress item }))
@@ -80,10 +84,7 @@ Starts-item nets p item h = h
 Starts-state_before_fault_item : (nets : List Net) (s : DumpState) (item : BodyItem) (items : List BodyItem)
     (stood : Result BodyContext VcdFault) → Starts s.progress
     → ((next : DumpState) → Starts next.progress → Starts (state_before_fault nets next items).progress)
-    → Starts (elim (with_progress (progress_after nets s.progress item) stood) as (λ _. DumpState) [
-      | Ok next ↦ state_before_fault nets next items
-      | Err fault ↦ s
-    ]).progress
+    → Starts (state_reached_after nets s items (with_progress (progress_after nets s.progress item) stood)).progress
 Starts-state_before_fault_item nets s item items (Ok next) h rest =
     rest (record { context = next; progress = progress_after nets s.progress item })
     (Starts-item nets s.progress item h)

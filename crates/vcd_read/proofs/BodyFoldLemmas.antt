@@ -18,10 +18,11 @@ use Rattle.vcd_read.specs.DumpProgress.{DumpProgress, values_from, flushed}
 use Rattle.vcd_read.specs.DumpProgress.{DumpState as Whole, ended as instants_at, steps as whole_steps}
 use Rattle.vcd_read.specs.DumpProgress.{progress_after as whole_after}
 use Rattle.vcd_read.specs.BodyFold.{BodyFold, State, ended, at_end, at_first, progress_after, reached_before, steps}
-use Rattle.vcd_read.specs.BodyFold.{fold_body}
+use Rattle.vcd_read.specs.BodyFold.{fold_body, with_progress}
 use Rattle.vcd_read.specs.Collected.{Collected, collected_change, collected_instant}
 use Rattle.vcd_read.proofs.CurrentValues.{CurrentValues}
-use Rattle.vcd_read.proofs.BeforeFaultLemmas.{state_before_fault}
+use Rattle.vcd_read.proofs.BeforeFaultLemmas.{state_before_fault, state_reached_after, with_progress as whole_of}
+use Rattle.vcd_read.proofs.BodyLemmas.{reached_after}
 use Rattle.vcd_read.proofs.InstantsLaw.{at_start}
 use Rattle.vcd_read.proofs.CodesLemmas.{net_of-within}
 use Rattle.vcd_read.proofs.ReadLemmas.{instants_from-steps}
@@ -125,22 +126,14 @@ module _ {A : Type 0} (with_change : A → ℕ → List Bit → A) (with_instant
       )
   Keeps-item item s next p a ok r = (a, refl, r)
 
-  -- the state of the reading with the progress `p`, if the context is no fault
-  abbrev whole_of : DumpProgress → Result BodyContext VcdFault → Result Whole VcdFault
-  whole_of p r = r >>= λ next. Ok (record { context = next; progress = p })
-
-  -- the state of the fold with the progress `t`, if the context is no fault
-  abbrev taken_of : BodyFold A → Result BodyContext VcdFault → Result (State A) VcdFault
-  taken_of t r = r >>= λ next. Ok (record { context = next; progress = t })
-
   -- an item, and then items that keep the relation from each state on, keep it
   KeepsState-item : (items : List BodyItem) (item : BodyItem) (s : Whole) (a : A) (stood : Result BodyContext VcdFault)
       → context_after nets s.context item ≡ stood → R s.progress.done s.progress.current a
       → ((s2 : Whole) (b : A) → R s2.progress.done s2.progress.current b → KeepsState (whole_steps nets s2 items)
       (steps with_change with_instant nets (state_at s2 b) items))
       → KeepsState (whole_of (whole_after nets s.progress item) stood >>= λ next. whole_steps nets next items)
-      (taken_of (progress_after with_change with_instant nets (fold_at s.progress a) item) stood >>= λ next. steps
-      with_change with_instant nets next items)
+      (with_progress (progress_after with_change with_instant nets (fold_at s.progress a) item) stood
+      >>= λ next. steps with_change with_instant nets next items)
   KeepsState-item items item s a (Ok next) e r rest =
       let kept = Keeps-item item s.context next s.progress a e r in
       let after : Whole = record { context = next; progress = whole_after nets s.progress item } in
@@ -166,14 +159,9 @@ module _ {A : Type 0} (with_change : A → ℕ → List Bit → A) (with_instant
       → ((s2 : Whole) (b : A) → R s2.progress.done s2.progress.current b
       → KeepsBefore (state_before_fault nets s2 items)
       (reached_before with_change with_instant nets (state_at s2 b) items))
-      → KeepsBefore (elim (whole_of (whole_after nets s.progress item) stood) [
-        | Ok next ↦ state_before_fault nets next items
-        | Err fault ↦ s
-      ])
-      (elim (taken_of (progress_after with_change with_instant nets (fold_at s.progress a) item) stood) [
-        | Ok next ↦ reached_before with_change with_instant nets next items
-        | Err fault ↦ state_at s a
-      ])
+      → KeepsBefore (state_reached_after nets s items (whole_of (whole_after nets s.progress item) stood))
+      (reached_after with_change with_instant nets (state_at s a) items
+      (with_progress (progress_after with_change with_instant nets (fold_at s.progress a) item) stood))
   KeepsBefore-item items item s a (Ok next) e r rest =
       let kept = Keeps-item item s.context next s.progress a e r in
       let after : Whole = record { context = next; progress = whole_after nets s.progress item } in

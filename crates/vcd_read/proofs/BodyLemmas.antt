@@ -162,34 +162,34 @@ module _ {A : Type 0} (with_change : A → ℕ → List Bit → A) (with_instant
   abbrev unfinished_at : ℕ → Result A VcdFault
   unfinished_at line = Err (record { line = line; kind = UnfinishedSection })
 
+  -- the state before the first fault of `items` from the state `r` on, or `s` where `r` is a fault
+  abbrev pub reached_after : List Net → State A → List BodyItem → Result (State A) VcdFault → State A
+  reached_after nets s items r = elim r as (λ _. State A) [
+    | Ok next ↦ reached_before with_change with_instant nets next items
+    | Err fault ↦ s
+  ]
+
+  -- what reading `items` from the state `r` on gives, and how far it comes
+  abbrev until_fault_after : List Net → State A → List BodyItem → Result (State A) VcdFault → UntilFault A
+  until_fault_after nets s items r = record {
+    outcome = r >>= λ next. steps with_change with_instant nets next items;
+    reached = reached_after nets s items r;
+  }
+
   -- to read an item without a fault, and then `items`, is to read `items` from the state after it
   until_fault-item : (nets : List Net) (s next : State A) (item : BodyItem) (items : List BodyItem) → step with_change
       with_instant nets s item ≡ Ok next
       → until_fault with_change with_instant nets s (item ∷ items)
       ≡ until_fault with_change with_instant nets next items
   unfolding steps reached_before
-  until_fault-item nets s next item items e =
-      ap (λ (r : Result (State A) VcdFault). record {
-        outcome = r >>= λ next. steps with_change with_instant nets next items;
-        reached = elim r [
-          | Ok next ↦ reached_before with_change with_instant nets next items
-          | Err fault ↦ s
-        ];
-      }) e
+  until_fault-item nets s next item items e = ap (until_fault_after nets s items) e
 
   -- reading stops at an item that is a fault, in the state before it
   until_fault-fault : (nets : List Net) (s : State A) (item : BodyItem) (items : List BodyItem) (fault : VcdFault)
       → step with_change with_instant nets s item ≡ Err fault
       → until_fault with_change with_instant nets s (item ∷ items) ≡ record { outcome = Err fault; reached = s }
   unfolding steps reached_before
-  until_fault-fault nets s item items fault e =
-      ap (λ (r : Result (State A) VcdFault). record {
-        outcome = r >>= λ next. steps with_change with_instant nets next items;
-        reached = elim r [
-          | Ok next ↦ reached_before with_change with_instant nets next items
-          | Err fault ↦ s
-        ];
-      }) e
+  until_fault-fault nets s item items fault e = ap (until_fault_after nets s items) e
 
   -- if reading stops at `s`, what was taken and the time there are those before the fault
   until_fault-stops : (nets : List Net) (s : State A) (items : List BodyItem) (line : ℕ) (kind : FaultKind)

@@ -22,10 +22,11 @@ use Rattle.vcd_read.specs.Body.{ready, code_of_vector, code_of_foreign, in_comme
 use Rattle.vcd_read.specs.Body.{foreign, comment, open_shape, end_shape, none, BodyContext, context_after, time_after}
 use Rattle.vcd_read.specs.Body.{body_from, shape_of}
 use Rattle.vcd_read.specs.BodyFold.{BodyFold, State, advanced, progress_after, reached_before, state_at, step, steps}
+use Rattle.vcd_read.specs.BodyFold.{with_progress}
 use Rattle.vcd_read.specs.Reached.{Reached, rest_of}
 use Rattle.vcd_read.specs.DetachedPieces.{MayFollow, IsReadDetached, ReadDetached, before_piece, behind_piece, ended_at}
 use Rattle.vcd_read.specs.DetachedPieces.{entered, detached_items, time_first, with_taken}
-use Rattle.vcd_read.proofs.BodyLemmas.{commented, items_of, body_from-shape}
+use Rattle.vcd_read.proofs.BodyLemmas.{commented, items_of, body_from-shape, reached_after}
 
 -- ---- the time that a piece begins with
 
@@ -117,8 +118,9 @@ module _ {A : Type 0} (with_change : A → ℕ → List Bit → A) (with_instant
         (end : State A)
         → ((next : State A) → R next.progress.accumulator → steps with_change with_instant nets next items ≡ Ok end
         → R end.progress.accumulator)
-        → R p.accumulator → ((stood >>= λ next. Ok (record { context = next; progress = p })) >>= λ next. steps
-        with_change with_instant nets next items) ≡ Ok end → R end.progress.accumulator
+        → R p.accumulator
+        → (with_progress p stood >>= λ next. steps with_change with_instant nets next items) ≡ Ok end
+        → R end.progress.accumulator
     steps-keep_after_context items p (Ok next) end rest r is = rest (record { context = next; progress = p }) r is
     steps-keep_after_context items p (Err fault) end rest r is = absurd cc
 
@@ -223,8 +225,8 @@ module _ {A : Type 0} (with_change : A → ℕ → List Bit → A) (with_instant
   time_of-after_steps : (s : BodyContext) (line : ℕ) (digits : List ℕ) (p : BodyFold A) (items : List BodyItem)
       (end : State A)
       (read : Result ℕ FaultKind) → time_of digits ≡ read
-      → ((at_line line (read >>= λ n. time_after s.now n >>= λ now. Ok (record s { now = now })) >>= λ next. Ok
-      (record { context = next; progress = p })) >>= λ next. steps with_change with_instant nets next items) ≡ Ok end
+      → (with_progress p (at_line line (read >>= λ n. time_after s.now n >>= λ now. Ok (record s { now = now })))
+      >>= λ next. steps with_change with_instant nets next items) ≡ Ok end
       → time_of digits ≡ Ok (number digits)
   time_of-after_steps s line digits p items end (Ok n) e h = e ∙ ap Ok (sym (number-time_of digits n e))
   time_of-after_steps s line digits p items end (Err kind) e h = absurd cc
@@ -313,10 +315,9 @@ module _ {A B : Type 0} (with_change : A → ℕ → List Bit → A) (with_insta
     steps-learned_after_context : (items : List BodyItem) (p : BodyFold A) (stood : Result BodyContext VcdFault)
         → ((s : State A) → steps other_change other_instant nets (learned_state s) items
         ≡ (steps with_change with_instant nets s items >>= λ end. Ok (learned_state end)))
-        → ((stood >>= λ next. Ok (record { context = next; progress = learned_fold p })) >>= λ next. steps
-        other_change other_instant nets next items)
-        ≡ (((stood >>= λ next. Ok (record { context = next; progress = p })) >>= λ next. steps with_change with_instant
-        nets next items) >>= λ end. Ok (learned_state end))
+        → (with_progress (learned_fold p) stood >>= λ next. steps other_change other_instant nets next items)
+        ≡ ((with_progress p stood >>= λ next. steps with_change with_instant nets next items)
+        >>= λ end. Ok (learned_state end))
     steps-learned_after_context items p (Ok next) rest = rest (record { context = next; progress = p })
     steps-learned_after_context items p (Err fault) rest = refl
 
@@ -327,29 +328,18 @@ module _ {A B : Type 0} (with_change : A → ℕ → List Bit → A) (with_insta
     unfolding steps
     steps-learned s [] = refl
     steps-learned s (item ∷ items) =
-        ap (λ (p : BodyFold B). (context_after nets s.context item >>= λ next. Ok
-        (record { context = next; progress = p })) >>= λ next. steps other_change other_instant nets next items)
-        (learned_fold-progress_after s.progress item)
+        ap (λ (p : BodyFold B). with_progress p (context_after nets s.context item)
+        >>= λ next. steps other_change other_instant nets next items) (learned_fold-progress_after s.progress item)
         ∙ steps-learned_after_context items (progress_after with_change with_instant nets s.progress item)
         (context_after nets s.context item) (λ s2. steps-learned s2 items)
-
-    -- the state with the progress `p`, if the context is no fault
-    abbrev with_progress : {C : Type 0} → BodyFold C → Result BodyContext VcdFault → Result (State C) VcdFault
-    with_progress p stood = stood >>= λ next. Ok (record { context = next; progress = p })
 
     -- if how far items are read can be learned from each state, it can from the context `stood` and the progress `p`
     reached_before-learned_after_context : (items : List BodyItem) (s : State A) (p : BodyFold A)
         (stood : Result BodyContext VcdFault)
         → ((s2 : State A) → reached_before other_change other_instant nets (learned_state s2) items
         ≡ learned_state (reached_before with_change with_instant nets s2 items))
-        → elim (with_progress (learned_fold p) stood) as (λ _. State B) [
-          | Ok next ↦ reached_before other_change other_instant nets next items
-          | Err fault ↦ learned_state s
-        ]
-        ≡ learned_state (elim (with_progress p stood) as (λ _. State A) [
-          | Ok next ↦ reached_before with_change with_instant nets next items
-          | Err fault ↦ s
-        ])
+        → reached_after other_change other_instant nets (learned_state s) items (with_progress (learned_fold p) stood)
+        ≡ learned_state (reached_after with_change with_instant nets s items (with_progress p stood))
     reached_before-learned_after_context items s p (Ok next) rest = rest (record { context = next; progress = p })
     reached_before-learned_after_context items s p (Err fault) rest = refl
 
@@ -360,10 +350,8 @@ module _ {A B : Type 0} (with_change : A → ℕ → List Bit → A) (with_insta
     unfolding reached_before
     reached_before-learned s [] = refl
     reached_before-learned s (item ∷ items) =
-        ap (λ (p : BodyFold B). elim (with_progress p (context_after nets s.context item)) as (λ _. State B) [
-          | Ok next ↦ reached_before other_change other_instant nets next items
-          | Err fault ↦ learned_state s
-        ]) (learned_fold-progress_after s.progress item)
+        ap (λ (p : BodyFold B). reached_after other_change other_instant nets (learned_state s) items
+        (with_progress p (context_after nets s.context item))) (learned_fold-progress_after s.progress item)
         ∙ reached_before-learned_after_context items s (progress_after with_change with_instant nets s.progress item)
         (context_after nets s.context item) (λ s2. reached_before-learned s2 items)
 

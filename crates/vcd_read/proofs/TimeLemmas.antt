@@ -5,12 +5,13 @@ use Rattle.std.specs.Prelude.{not, ◌==◌}
 use Rattle.vcd_read.specs.declared.dump.Bit.{Bit}
 use Rattle.vcd_read.specs.declared.fault.VcdFault.{VcdFault}
 use Rattle.vcd_read.specs.Numbers.{number}
-use Rattle.vcd_read.specs.Header.{◌>>=◌, Net}
+use Rattle.vcd_read.specs.Header.{Net}
 use Rattle.vcd_read.specs.Body.{BodyItem, time_item}
 use Rattle.vcd_read.specs.Body.{BodyContext}
 use Rattle.vcd_read.specs.Body.{context_after}
 use Rattle.vcd_read.specs.Meaning.{items_before_fault, last_time}
-use Rattle.vcd_read.specs.BodyFold.{State, BodyFold, progress_after, reached_before}
+use Rattle.vcd_read.specs.BodyFold.{State, BodyFold, progress_after, reached_before, with_progress}
+use Rattle.vcd_read.proofs.BodyLemmas.{reached_after}
 
 module _ {A : Type 0} (with_change : A → ℕ → List Bit → A) (with_instant : A → ℕ → A) (nets : List Net) where
   -- the current time of the fold
@@ -34,20 +35,14 @@ module _ {A : Type 0} (with_change : A → ℕ → List Bit → A) (with_instant
       (time-advanced (p.has_instant && not (number digits == p.time)) p (number digits))
   last_time-item p item items = refl
 
-  -- the state with the progress `p`, if the context is no fault
-  abbrev state_of : BodyFold A → Result BodyContext VcdFault → Result (State A) VcdFault
-  state_of p stood = stood >>= λ next. Ok (record { context = next; progress = p })
-
   -- the current time before the first fault of an item and those after it is the time of the last time item before that
   -- fault, if this holds of the items after it
   time-reached_before_item : (s : State A) (item : BodyItem) (items : List BodyItem)
       (stood : Result BodyContext VcdFault)
       → ((next : State A) → (reached_before with_change with_instant nets next items).progress.time
       ≡ last_time next.progress.time (items_before_fault nets next.context items))
-      → (elim (state_of (progress_after with_change with_instant nets s.progress item) stood) as (λ _. State A) [
-        | Ok next ↦ reached_before with_change with_instant nets next items
-        | Err fault ↦ s
-      ]).progress.time
+      → (reached_after with_change with_instant nets s items
+      (with_progress (progress_after with_change with_instant nets s.progress item) stood)).progress.time
       ≡ last_time s.progress.time (elim stood [
         | Ok next ↦ item ∷ items_before_fault nets next items
         | Err fault ↦ []

@@ -44,6 +44,10 @@ state_at timed dump_section = record {
 abbrev pub state_of : {A : Type 0} → BodyPiece → BodyFold A → Option Start → State A
 state_of text timed dump_section = state_at timed (option_map (line_of text) dump_section)
 
+-- how far a body is read in this context, or its fault
+abbrev pub with_progress : {A : Type 0} → BodyFold A → Result BodyContext VcdFault → Result (State A) VcdFault
+with_progress p stood = stood >>= λ next. Ok (record { context = next; progress = p })
+
 -- before any item
 abbrev pub at_first : {A : Type 0} → A → State A
 at_first a = record {
@@ -86,8 +90,7 @@ module _ {A : Type 0} (with_change : A → ℕ → List Bit → A) (with_instant
 
   -- the state after one more item, or the fault of the item
   abbrev pub step : State A → BodyItem → Result (State A) VcdFault
-  step s item = context_after nets s.context item
-      >>= λ next. Ok (record { context = next; progress = progress_after s.progress item })
+  step s item = with_progress (progress_after s.progress item) (context_after nets s.context item)
 
   -- the state after all items, or their first fault
   unfoldable pub steps : State A → List BodyItem → Result (State A) VcdFault

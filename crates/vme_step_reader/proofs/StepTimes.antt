@@ -14,8 +14,10 @@ use Rattle.vcd_read.specs.Body.{context_after, time_item, wrong}
 use Rattle.vcd_read.specs.Header.{◌>>=◌, Net}
 use Rattle.vcd_read.specs.Numbers.{number}
 use Rattle.vcd_read.specs.BodyFold.{State, BodyFold, at_end, ended, progress_after, reached_before, state_at, steps}
+use Rattle.vcd_read.specs.BodyFold.{with_progress}
 use Rattle.vcd_read.specs.Tokens.{tokens_from}
 use Rattle.vcd_read.specs.declared.fault.VcdFault.{VcdFault}
+use Rattle.vcd_read.proofs.BodyLemmas.{reached_after}
 use Rattle.vcd_read.proofs.ContextLemmas.{context_after-time, now-now_after}
 use Rattle.vcd_read.proofs.TimeLemmas.{time-advanced}
 use Rattle.vme_bind.specs.BuilderState.{BuilderState, builder_change, builder_instant}
@@ -140,20 +142,14 @@ module _ (from : ℕ) where
 
     -- ---- items
 
-    -- the state with the progress `p`, if the context is no fault
-    abbrev state_of : BodyFold BuilderState → Result BodyContext VcdFault → Result (State BuilderState) VcdFault
-    state_of p stood = stood >>= λ next. Ok (record { context = next; progress = p })
-
     -- `IsAt` still holds after an item, and then items after which it still holds, up to their first fault
     IsAt-reached_before_item : (s : State BuilderState) (item : BodyItem) (items : List BodyItem)
         (stood : Result BodyContext VcdFault)
         → context_after nets s.context item ≡ stood → IsAt s
         → ((next : State BuilderState) → IsAt next
         → IsAt (reached_before builder_change builder_instant nets next items))
-        → IsAt (elim (state_of (after s.progress item) stood) as (λ _. State BuilderState) [
-          | Ok next ↦ reached_before builder_change builder_instant nets next items
-          | Err fault ↦ s
-        ])
+        → IsAt (reached_after builder_change builder_instant nets s items
+        (with_progress (after s.progress item) stood))
     IsAt-reached_before_item s item items (Ok next) e h rest = rest (state_after s item next)
         (IsAt-item s item next h e)
     IsAt-reached_before_item s item items (Err fault) e h rest = h
@@ -170,15 +166,11 @@ module _ (from : ℕ) where
     -- where an item and those after it have no fault, all are reached
     reached_before-whole_item : (s end : State BuilderState) (item : BodyItem) (items : List BodyItem)
         (stood : Result BodyContext VcdFault)
-        → (state_of (after s.progress item) stood >>= λ next. steps builder_change builder_instant nets next items)
+        → (with_progress (after s.progress item) stood >>= λ next. steps builder_change builder_instant nets next items)
         ≡ Ok end
         → ((next : State BuilderState) → steps builder_change builder_instant nets next items ≡ Ok end
         → reached_before builder_change builder_instant nets next items ≡ end)
-        → elim (state_of (after s.progress item) stood) as (λ _. State BuilderState) [
-          | Ok next ↦ reached_before builder_change builder_instant nets next items
-          | Err fault ↦ s
-        ]
-        ≡ end
+        → reached_after builder_change builder_instant nets s items (with_progress (after s.progress item) stood) ≡ end
     reached_before-whole_item s end item items (Ok next) whole rest = rest (state_after s item next) whole
     reached_before-whole_item s end item items (Err fault) whole rest = absurd cc
 
