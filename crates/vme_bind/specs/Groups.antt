@@ -29,9 +29,9 @@ share g h = nat_lt g.first (h.first + g.count) && nat_lt h.first (g.first + h.co
 abbrev pub single : ℕ → ℕ → Option Group
 single slots l = if has_line slots l then Some (down_from l 1) else None
 
--- the lines that `name` denotes on a backplane of `slots` slots
-abbrev pub group_named : ℕ → List ℕ → Option Group
-group_named slots name =
+-- the lines that `name` denotes on a backplane of `slots` slots, if they are several, or else `other`
+abbrev pub several_or : ℕ → List ℕ → Option Group → Option Group
+several_or slots name other =
     if bytes_eq name (codes "AM") then Some (down_from (AM 5) 6)
     else if bytes_eq name (codes "A") then Some (down_from (A 31) 31)
     else if bytes_eq name (codes "BR") then Some (down_from (BR 3) 4)
@@ -41,4 +41,8 @@ group_named slots name =
     else if bytes_eq name (codes "BG3") then Some (down_from (grant 3 slots) (slots + 1))
     else if bytes_eq name (codes "IA") then Some (down_from (iack slots) slots)
     else if bytes_eq name (codes "D") then Some data_group
-    else option_and_then (single slots) (line_named name)
+    else other
+
+-- the lines that `name` denotes on a backplane of `slots` slots
+abbrev pub group_named : ℕ → List ℕ → Option Group
+group_named slots name = several_or slots name (option_and_then (single slots) (line_named name))

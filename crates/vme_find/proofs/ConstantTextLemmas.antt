@@ -6,7 +6,7 @@ use Rattle.std.specs.Fmt.{digits}
 use Rattle.std.specs.List.{list_all, onto_first, slice_split}
 use Rattle.std.proofs.lemmas.Bool.{and_parts, eqb-true, not-false, not-true}
 use Rattle.vme_trace.specs.Instants.{any, every, least}
-use Rattle.vme_trace.specs.LineNumbers.{A, AM, AS, BBSY, BERR, BR, DS0, DS1, DTACK, IACK, LWORD, WRITE, grant, iack}
+use Rattle.vme_trace.specs.LineNumbers.{AS, BBSY, BERR, DS0, DS1, DTACK, IACK, LWORD, WRITE}
 use Rattle.vme_trace.specs.LineNumbers.{line_count}
 use Rattle.vme_trace.specs.Names.{line_name, line_named}
 use Rattle.vme_trace.proofs.NameLaws.{line_named-is}
@@ -16,7 +16,7 @@ use Rattle.vcd_read.proofs.ResultLemmas.{bind-same}
 use Rattle.vme_bind.specs.Answers.{at_line}
 use Rattle.vme_bind.specs.Binding.{BoundLines, binding_from, binding_of, bound, bound_all, finished, group_of}
 use Rattle.vme_bind.specs.Binding.{name_and_source, no_assignments, once, slots_stated, with_assignment}
-use Rattle.vme_bind.specs.Groups.{down_from, group_named, single}
+use Rattle.vme_bind.specs.Groups.{down_from, group_named, several_or, single}
 use Rattle.vme_bind.specs.Text.{StatementText, statements_of, end_line, is_feed, statement_on, statements_from}
 use Rattle.vme_bind.specs.Text.{without_return, words}
 use Rattle.vme_bind.specs.declared.fault.BindFault.{BindFault}
@@ -129,15 +129,7 @@ group_by_table slots name =
     else if bytes_eq name (codes "LWORD") then Some (down_from LWORD 1)
     else if bytes_eq name (codes "WRITE") then Some (down_from WRITE 1)
     else if bytes_eq name (codes "BBSY") then Some (down_from BBSY 1)
-    else if bytes_eq name (codes "AM") then Some (down_from (AM 5) 6)
-    else if bytes_eq name (codes "A") then Some (down_from (A 31) 31)
-    else if bytes_eq name (codes "BR") then Some (down_from (BR 3) 4)
-    else if bytes_eq name (codes "BG0") then Some (down_from (grant 0 slots) (slots + 1))
-    else if bytes_eq name (codes "BG1") then Some (down_from (grant 1 slots) (slots + 1))
-    else if bytes_eq name (codes "BG2") then Some (down_from (grant 2 slots) (slots + 1))
-    else if bytes_eq name (codes "BG3") then Some (down_from (grant 3 slots) (slots + 1))
-    else if bytes_eq name (codes "IA") then Some (down_from (iack slots) slots)
-    else None
+    else several_or slots name None
 
 -- `bound`, by `group_by_table`
 abbrev bound_by_table : BoundLines → StatementText → Result BoundLines BindFaultKind
