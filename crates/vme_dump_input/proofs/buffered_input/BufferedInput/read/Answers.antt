@@ -41,12 +41,9 @@ returns-then-count-eq0-clause-read g c old done h =
       reads = self.reads;
       is_whole = self.is_whole;
     } in
-    let after : InputSoFar = record {
+    let after : InputSoFar = record before {
       held = c.read_after.new.held.items;
-      limit = self.limit;
       room = vec_len c.read_after.new.room;
-      read = self.read;
-      reads = self.reads;
       is_whole = true;
     } in
     let (more, long, held, consumed) = c.in-Ok.ensures.bytes in
@@ -71,13 +68,11 @@ returns-clause-read g c old done h =
       reads = self.reads;
       is_whole = self.is_whole;
     } in
-    let after : InputSoFar = record {
+    let after : InputSoFar = record before {
       held = c.read_after.new.held.items;
-      limit = self.limit;
       room = vec_len c.read_after.new.room;
       read = self.read + c.in-Ok.count;
       reads = self.reads + 1;
-      is_whole = self.is_whole;
     } in
     let (more, long, held, consumed) = c.in-Ok.ensures.bytes in
     let some : 0 < c.in-Ok.count = omega (arith, c.if-count-eq0.false) in
