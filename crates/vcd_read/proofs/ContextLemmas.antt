@@ -24,6 +24,10 @@ ok-after_two_tests true true x y e f h = cc
 ok-after_two_tests true false x y e f h = absurd cc
 ok-after_two_tests false q x y e f h = absurd cc
 
+-- a time is the number that its digits denote
+pub number-time_of : (digits : List ℕ) (time : ℕ) → time_of digits ≡ Ok time → number digits ≡ time
+number-time_of digits time h = ok-after_two_tests _ _ _ _ _ _ h
+
 -- a value that isn't refused is as it was, and `p` doesn't hold
 ok-after_test : {A E : Type 0} (p : Bool) (x y : A) (e : E) → cond p (Err e) (Ok x) ≡ Ok y → (p ≡ false) × (x ≡ y)
 ok-after_test true x y e h = absurd cc
@@ -44,7 +48,7 @@ pub context_after-time : (nets : List Net) (s next : BodyContext) (line : ℕ) (
 context_after-time nets s next line digits h =
     let a = bind-ok (time_of digits) _ next (at_line-ok line _ next h) in
     let b = bind-ok (time_after s.now a.0) _ next a.2 in
-    let n : number digits ≡ a.0 = ok-after_two_tests _ _ _ _ _ _ a.1 in
+    let n = number-time_of digits a.0 a.1 in
     let t = ok-after_test (nat_lt a.0 s.now) a.0 b.0 _ b.1 in
     let e : record s { now = b.0 } ≡ next = cc in (
       a.1 ∙ ap (λ (k : ℕ). Ok k) (sym n),

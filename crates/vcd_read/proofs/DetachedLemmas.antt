@@ -27,19 +27,9 @@ use Rattle.vcd_read.specs.Reached.{Reached, rest_of}
 use Rattle.vcd_read.specs.DetachedPieces.{MayFollow, IsReadDetached, ReadDetached, before_piece, behind_piece, ended_at}
 use Rattle.vcd_read.specs.DetachedPieces.{entered, detached_items, time_first, with_taken}
 use Rattle.vcd_read.proofs.BodyLemmas.{commented, items_of, body_from-shape, reached_after}
+use Rattle.vcd_read.proofs.ContextLemmas.{number-time_of}
 
 -- ---- the time that a piece begins with
-
--- a time that passes both tests is the number of its text
-number-after_two_tests : (text : List ℕ) (time : ℕ) (test below : Bool) (kind large : FaultKind)
-    → cond test (cond below (Ok (number text)) (Err large)) (Err kind) ≡ Ok time → number text ≡ time
-number-after_two_tests text time true true kind large h = cc
-number-after_two_tests text time true false kind large h = absurd cc
-number-after_two_tests text time false below kind large h = absurd cc
-
--- a time is the number that its digits denote
-pub number-time_of : (digits : List ℕ) (time : ℕ) → time_of digits ≡ Ok time → number digits ≡ time
-number-time_of digits time h = number-after_two_tests digits time _ _ _ _ h
 
 -- a piece whose first token is a time begins with it
 pub time_first-read : (ts others : List Token) (t : Token) (digits : List ℕ) (time : ℕ) → ts ≡ t ∷ others
