@@ -1,9 +1,10 @@
 -- A text into which something is put, at white space, is read as the text, with the tokens that are put in between.
 use Rattle.std.proofs.Common.{◌≡◌, ℕ, Bool, true, false, eqb, List, [], ◌∷◌, ◌++◌}
 use Rattle.std.proofs.Common.{refl, sym, ap, ◌∙◌, append_assoc, true≢false, zero-add}
-use Rattle.std.specs.Prelude.{Option, Some, Result, Ok, Err, not, ◌||◌, flat_map, is_some, map, unwrap_or}
+use Rattle.std.specs.Prelude.{Some, Result, Ok, Err, not, ◌||◌, flat_map, is_some, map}
 use Rattle.std.specs.List.{list_all, list_any}
 use Rattle.std.proofs.lemmas.Bool.{and_parts, not-true}
+use Rattle.std.proofs.lemmas.Option.{same_Some}
 use Rattle.vcd_read.specs.declared.dump.Variable.{Variable}
 use Rattle.vcd_read.specs.declared.fault.VcdFault.{VcdFault}
 use Rattle.vcd_read.specs.Tokens.{Token, cut_from, cut_tokens, is_space, next_line, tokens_from}
@@ -144,16 +145,12 @@ module _ (more : List Token) where
   ExtendsBody place ts = (body : List Token) → (header_from place ts).body ≡ Some body
       → header_from place (ts ++ more) ≡ with_more_body (header_from place ts) body
 
-  -- two options that are equal have equal values
-  some-same_body : (a b : List Token) → Some a ≡ Some b → a ≡ b
-  some-same_body a b e = ap (λ (o : Option (List Token)). unwrap_or o a) e
-
   -- `ExtendsBody` holds from the end of a section on, which ends the definitions if `test` holds, if it does after it
   ExtendsBody-section_end : (section : Section) (ts body : List Token) (test : Bool) → ExtendsBody between ts
       → (from_section_end section ts test).body ≡ Some body
       → from_section_end section (ts ++ more) test ≡ with_more_body (from_section_end section ts test) body
   ExtendsBody-section_end section ts body true rest ends =
-      ap (λ (b : List Token). record { items = []; body = Some (b ++ more) }) (some-same_body ts body ends)
+      ap (λ (b : List Token). record { items = []; body = Some (b ++ more) }) (same_Some ts body ends)
   ExtendsBody-section_end section ts body false rest ends = ap (with_item (whole section)) (rest body ends)
 
   -- `ExtendsBody` holds from a token in a section on, its end if `test` holds, if it does from the tokens after it on

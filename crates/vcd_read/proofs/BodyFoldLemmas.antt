@@ -26,6 +26,7 @@ use Rattle.vcd_read.proofs.BodyLemmas.{reached_after}
 use Rattle.vcd_read.proofs.InstantsLaw.{at_start}
 use Rattle.vcd_read.proofs.CodesLemmas.{net_of-within}
 use Rattle.vcd_read.proofs.ReadLemmas.{instants_from-steps}
+use Rattle.vcd_read.proofs.ResultLemmas.{ok-same}
 
 -- if the item of a code is no fault, the net of the code is found
 fitting-some : (nets : List Net) (digits line : ℕ) (found : Option ℕ) (s next : BodyContext)
@@ -42,10 +43,6 @@ Follows R (Err fault) r = r ≡ Err fault
 -- an accumulator is related to all instants, and to some current values after them
 abbrev pub Ends : {A : Type 0} → (List Instant → CurrentValues → A → Type 0) → List Instant → A → Type 0
 Ends R instants a = (current : CurrentValues) × R instants current a
-
--- a result has one value
-ok_same : {A E : Type 0} (x y : A) (r : Result A E) → r ≡ Ok x → r ≡ Ok y → x ≡ y
-ok_same x y r e h = cc
 
 -- a result has one fault
 err_same : {A E : Type 0} (x y : E) (r : Result A E) → r ≡ Err x → r ≡ Err y → x ≡ y
@@ -72,7 +69,7 @@ ReadFails-followed R w r fault f h = ReadFailsAs-followed R w r fault.line fault
 pub ok-followed : {A : Type 0} (R : List Instant → A → Type 0) (w : Result (List Instant) VcdFault)
     (r : Result A VcdFault) (a : A) → Follows R w r → r ≡ Ok a → (instants : List Instant) × (w ≡ Ok instants)
     × R instants a
-ok-followed R (Ok instants) r a f h = (instants, refl, subst (R instants) (ok_same f.0 a r f.1 h) f.2)
+ok-followed R (Ok instants) r a f h = (instants, refl, subst (R instants) (ok-same f.0 a r f.1 h) f.2)
 ok-followed R (Err fault) r a f h = absurd (ok_or_err a fault r h f)
 
 -- the relation `R` is of instants, the current values after them, and an accumulator; it is kept by each change and by

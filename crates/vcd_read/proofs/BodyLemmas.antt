@@ -2,6 +2,7 @@
 use Rattle.std.proofs.Common.{◌≡◌, ℕ, List, [], ◌∷◌, ◌++◌, Bool, true, false, Option, Some, None, Result, Ok, Err}
 use Rattle.std.proofs.Common.{IfOk, IfErr, refl}
 use Rattle.std.proofs.Common.{sym, ap, subst, ◌∙◌}
+use Rattle.std.proofs.lemmas.Option.{same_Some}
 use Rattle.vcd_read.specs.declared.fault.FaultKind.{FaultKind}
 use Rattle.vcd_read.specs.declared.fault.FaultKind.TheVariants.{Memory, BadToken, UnfinishedSection}
 use Rattle.vcd_read.specs.declared.fault.VcdFault.{VcdFault}
@@ -152,10 +153,6 @@ pub GivesOrStops-memory : {A T : Type 0} (taken : T → A) (before : BodyFold A)
 GivesOrStops-memory taken before end (Ok visitor) read is memory e = e ∙ ap Ok (sym is)
 GivesOrStops-memory taken before end (Err stopped) read is memory e = subst (λ (f : VcdFault). StoppedAs f.line f.kind
     (taken stopped.visitor) stopped.time before read) (sym memory) refl
-
--- a number that there is is one
-some-same : (a b : ℕ) → Some a ≡ Some b → a ≡ b
-some-same a b e = cc
 
 module _ {A : Type 0} (with_change : A → ℕ → List Bit → A) (with_instant : A → ℕ → A) where
   -- an item or a dump section on this line isn't ended
@@ -324,9 +321,9 @@ module _ {A : Type 0} (with_change : A → ℕ → List Bit → A) (with_instant
   finished-unfinished nets timed dump_section Ready line e = ap
       (λ (b : Option ℕ). finished with_change with_instant nets
       timed b ready) e
-  finished-unfinished nets timed dump_section (Vector digits) line e = ap unfinished_at (some-same digits.line line e)
-  finished-unfinished nets timed dump_section (Foreign at) line e = ap unfinished_at (some-same at line e)
-  finished-unfinished nets timed dump_section (Comment at) line e = ap unfinished_at (some-same at line e)
+  finished-unfinished nets timed dump_section (Vector digits) line e = ap unfinished_at (same_Some digits.line line e)
+  finished-unfinished nets timed dump_section (Foreign at) line e = ap unfinished_at (same_Some at line e)
+  finished-unfinished nets timed dump_section (Comment at) line e = ap unfinished_at (same_Some at line e)
 
   -- where no item and no dump section is open, the end of the body gives what was taken
   pub finished-ok : (nets : List Net) (timed : BodyFold A) (dump_section : Option ℕ) (place : OpenItem)

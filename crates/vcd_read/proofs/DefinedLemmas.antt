@@ -16,6 +16,7 @@ use Rattle.vcd_read.specs.Sections.{Defined, Headed, defined, headed, header_of}
 use Rattle.vcd_read.specs.Meaning.{ReadFails, body_of, dump_of}
 use Rattle.vcd_read.proofs.DumpLemmas.{contents_of_header, dump_of-header, whole_header}
 use Rattle.vcd_read.proofs.ReadLemmas.{ReadFails-first, ReadFailsAs-before_total}
+use Rattle.vcd_read.proofs.ResultLemmas.{ok-same}
 
 module _ {V : Type 0} (with_variable : V → Variable → V) where
   -- what a visitor makes of `variables`, one after the other
@@ -157,20 +158,12 @@ module _ {V : Type 0} (with_variable : V → Variable → V) where
   HasHeader text h first last = (variables : List Variable) × (whole_header text ≡ Ok (defined h variables))
       × (last ≡ fold with_variable first variables)
 
-  -- definitions as a result without a fault
-  abbrev ok_defined : Defined V → Result (Defined V) VcdFault
-  ok_defined d = Ok d
-
-  -- the values of equal results without a fault are equal
-  ok_same : (x y : Defined V) → ok_defined x ≡ ok_defined y → x ≡ y
-  ok_same x y e = cc
-
   -- where a visitor makes `last` of the header `r` of `text`, `HasHeader` holds
   HasHeader-by_result : (text : List ℕ) (h : Headed) (first last : V) (r : Result (Defined (List Variable)) VcdFault)
       → whole_header text ≡ r → (r >>= λ d. Ok (taken_head first d)) ≡ Ok (defined h last)
       → HasHeader text h first last
   HasHeader-by_result text h first last (Ok d) e is =
-      let same = ok_same (taken_head first d) (defined h last) is in (
+      let same = ok-same (taken_head first d) (defined h last) _ refl is in (
         d.variables,
         e ∙ ap (λ (x : Defined V). Ok (defined x.head d.variables)) same,
         sym (ap (λ (x : Defined V). x.variables) same),

@@ -5,6 +5,7 @@ use Rattle.std.proofs.Common.{Result, Ok, Err, refl, sym, ap, ◌∙◌, subst, 
 use Rattle.std.specs.Prelude.{not, ◌==◌, unwrap_or, nat_lt}
 use Rattle.std.proofs.lemmas.Bool.Decides.{nat_tests}
 use Rattle.std.proofs.lemmas.List.{append-nil}
+use Rattle.std.proofs.lemmas.Option.{same_Some}
 use Rattle.vcd_read.specs.declared.dump.Bit.{Bit}
 use Rattle.vcd_read.specs.declared.fault.FaultKind.{FaultKind}
 use Rattle.vcd_read.specs.declared.fault.FaultKind.TheVariants.{BadToken, TimeBackwards}
@@ -28,6 +29,7 @@ use Rattle.vcd_read.specs.DetachedPieces.{MayFollow, IsReadDetached, ReadDetache
 use Rattle.vcd_read.specs.DetachedPieces.{entered, detached_items, time_first, with_taken}
 use Rattle.vcd_read.proofs.BodyLemmas.{commented, items_of, body_from-shape, reached_after}
 use Rattle.vcd_read.proofs.ContextLemmas.{number-time_of}
+use Rattle.vcd_read.proofs.ResultLemmas.{ok-same}
 
 -- ---- the time that a piece begins with
 
@@ -114,15 +116,11 @@ module _ {A : Type 0} (with_change : A → ℕ → List Bit → A) (with_instant
     steps-keep_after_context items p (Ok next) end rest r is = rest (record { context = next; progress = p }) r is
     steps-keep_after_context items p (Err fault) end rest r is = absurd cc
 
-    -- a result has at most one state
-    same_state : (s end : State A) (r : Read) → r ≡ Ok s → r ≡ Ok end → s ≡ end
-    same_state s end r e is = cc
-
     -- items that are read without a fault keep `R`
     pub steps-keep : (s : State A) (items : List BodyItem) (end : State A) → R s.progress.accumulator
         → steps with_change with_instant nets s items ≡ Ok end → R end.progress.accumulator
     unfolding steps
-    steps-keep s [] end r is = subst (λ (x : State A). R x.progress.accumulator) (same_state s end (Ok s) refl is) r
+    steps-keep s [] end r is = subst (λ (x : State A). R x.progress.accumulator) (ok-same s end (Ok s) refl is) r
     steps-keep s (item ∷ items) end r is =
         steps-keep_after_context items (progress_after with_change with_instant nets s.progress item)
         (context_after nets s.context item) end (λ next kept. steps-keep next items end kept)
@@ -357,10 +355,6 @@ module _ {A B : Type 0} (with_change : A → ℕ → List Bit → A) (with_insta
     advanced-entered p time true = refl
     advanced-entered p time false = refl
 
-    -- two options that are equal have equal values
-    some-same : (a b : ℕ) → Some a ≡ Some b → a ≡ b
-    some-same a b e = cc
-
     -- items that begin with `time` give the other visitor, whose time isn't later, what it learns from the first
     steps-learned_from_time : (items : List BodyItem) (before : A) (time : ℕ) (end : State A) (p : BodyFold B)
         → time_first items
@@ -370,7 +364,7 @@ module _ {A B : Type 0} (with_change : A → ℕ → List Bit → A) (with_insta
     steps-learned_from_time [] before time end p first whole low learned_here = absurd cc
     steps-learned_from_time (time_item line digits ∷ items) before time end p first whole low learned_here =
         let n : ℕ = number digits in
-        let same : n ≡ time = some-same n time first in
+        let same : n ≡ time = same_Some n time first in
         let is : time_of digits ≡ Ok n = time_of-time_item with_change with_instant nets (before_piece before time) end
         line
         digits items whole in

@@ -1,4 +1,4 @@
--- The result of two steps, each of which may fail.
+-- A result, and the result of two steps, each of which may fail.
 use Rattle.std.proofs.Common.{◌≡◌, Result, Ok, Err, refl}
 use Rattle.vcd_read.specs.Header.{◌>>=◌}
 
@@ -13,3 +13,7 @@ pub bind-same : {A B E : Type 0} (r : Result A E) (f g : A → Result B E) → (
     → (r >>= f) ≡ (r >>= g)
 bind-same (Ok x) f g same = same x
 bind-same (Err e) f g same = refl
+
+-- a result has one value
+pub ok-same : {A E : Type 0} (x y : A) (r : Result A E) → r ≡ Ok x → r ≡ Ok y → x ≡ y
+ok-same x y r e h = cc

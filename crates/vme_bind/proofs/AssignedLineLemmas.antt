@@ -1,13 +1,13 @@
 -- The lines that a piece of a dump assigns a level to, as it is read ahead, and the levels that the piece leaves when
 -- it is read from other levels.
 use Rattle.std.proofs.Common.{◌≡◌, ℕ, ◌+◌, ◌<◌, ◌≤◌, Bool, true, false, cond, List, [], ◌∷◌, ◌++◌, length, map}
-use Rattle.std.proofs.Common.{slice_set, Some, Result, Ok, Err, refl, sym, ap, subst, ◌∙◌, inl, inr, ◌⊎◌, arith}
+use Rattle.std.proofs.Common.{slice_set, Result, Ok, Err, refl, sym, ap, subst, ◌∙◌, inl, inr, ◌⊎◌, arith}
 use Rattle.std.specs.Prelude.{◌≢◌}
 use Rattle.std.proofs.lemmas.Bool.{cases_eq, cond-false, cond-true, false≢true}
 use Rattle.std.proofs.lemmas.List.{get_or-replicate, get_or-set_other, get_or-set_same, get_or_past, length-replicate}
 use Rattle.std.proofs.lemmas.List.{length-set}
 use Rattle.std.proofs.lemmas.List.Elements.{All-head, All-tail}
-use Rattle.std.proofs.lemmas.Option.{unwrap_or-slice_get}
+use Rattle.std.proofs.lemmas.Option.{same_Some, unwrap_or-slice_get}
 use Rattle.vme_trace.specs.Levels.{Levels, level_at, set_level}
 use Rattle.vme_trace.specs.LineNumbers.{line_count}
 use Rattle.vme_trace.specs.Trace.{Trace, changed}
@@ -20,6 +20,7 @@ use Rattle.vcd_read.specs.BodyFold.{State, state_at, steps}
 use Rattle.vcd_read.specs.declared.dump.Bit.{Bit}
 use Rattle.vcd_read.specs.declared.fault.VcdFault.{VcdFault}
 use Rattle.vcd_read.proofs.DetachedLemmas.{IsReadDetached-keeps, learned_state, steps-keep, steps-learned}
+use Rattle.vcd_read.proofs.ResultLemmas.{ok-same}
 use Rattle.vme_bind.specs.Capture.{level_in}
 use Rattle.vme_bind.specs.BuilderState.{BuilderState, builder_change, builder_instant}
 use Rattle.vme_bind.specs.Recording.{AreLines, IsLine, RecorderLevels, line_change}
@@ -189,14 +190,6 @@ others_of_made m = record { line_bits = m.line_bits; levels = m.progress.now }
 abbrev made_of_ahead : SpeculativeBuilderState → BuilderState
 made_of_ahead m = m.made
 
--- a result without a fault has one value
-same_ok : {X : Type 0} (a b : X) (r : Result X VcdFault) → r ≡ Ok a → r ≡ Ok b → a ≡ b
-same_ok a b r e h = cc
-
--- a time that is there is one time
-same_time : (a b : ℕ) → Some a ≡ Some b → a ≡ b
-same_time a b e = cc
-
 module _ (nets : List Net) (bytes : List ℕ) (e : SpeculativeBuilderState) (a : ReadDetached SpeculativeBuilderState)
     (is : IsReadDetached speculative_change speculative_instant nets bytes e a) where
   -- the items of the piece
@@ -257,8 +250,7 @@ module _ (nets : List Net) (bytes : List ℕ) (e : SpeculativeBuilderState) (a :
     Ok-ahead_state (Ok end) h = (
       end,
       refl,
-      same_ok (ahead_state end) (state_at a.progress a.dump_section) (Ok (ahead_state end)) refl
-          h,
+      ok-same (ahead_state end) (state_at a.progress a.dump_section) (Ok (ahead_state end)) refl h,
     )
     Ok-ahead_state (Err fault) h = absurd cc
 
@@ -303,7 +295,7 @@ module _ (nets : List Net) (bytes : List ℕ) (e : SpeculativeBuilderState) (a :
         → m.progress.accumulator.progress.now ≡ after_piece
     now-after_piece line_bits t m lines line there =
         let time : m.time ≡ a.time =
-        same_time m.time a.time (sym there.begins ∙ ap (λ (n : ℕ). time_first (detached_items n bytes)) line
+        same_Some m.time a.time (sym there.begins ∙ ap (λ (n : ℕ). time_first (detached_items n bytes)) line
         ∙ is.begins)
         in
         let whole : steps builder_change builder_instant nets (before_piece (builder_after line_bits v t) a.time) items
@@ -333,7 +325,7 @@ module _ (nets : List Net) (bytes : List ℕ) (e : SpeculativeBuilderState) (a :
         ∙ ap (λ (r : Result (State WithOtherLevels) VcdFault). r >>= λ end. Ok (learned_state both_change both_instant
         others_change others_instant others_of_both (λ b net bits. refl) (λ b time. refl) end)) steps-both.1 in
         ap (λ (s : State OtherLevels). s.progress.accumulator.levels)
-        (same_ok _ _ (steps others_change others_instant nets
+        (ok-same _ _ (steps others_change others_instant nets
         (before_piece (record { line_bits = line_bits; levels = v }) a.time) items) of_made
         (ap (λ (x : NetLines). steps others_change others_instant nets
         (before_piece (record { line_bits = x; levels = v }) a.time) items) (sym lines) ∙ of_both))

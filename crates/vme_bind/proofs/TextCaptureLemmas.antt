@@ -20,6 +20,7 @@ use Rattle.vcd_read.specs.Sections.{Headed, Defined, defined, header_of}
 use Rattle.vcd_read.specs.Meaning.{ReadFails, ReadFailsAs, dump_of, instants_from}
 use Rattle.vcd_read.specs.BodyFold.{fold_body}
 use Rattle.vcd_read.proofs.ReadLemmas.{TimesAscend-instants_from}
+use Rattle.vcd_read.proofs.ResultLemmas.{ok-same}
 use Rattle.vcd_read.proofs.DumpLemmas.{contents_of_header, with_variables, whole_header, dump_of-header}
 use Rattle.vcd_read.proofs.CurrentValues.{CurrentValues}
 use Rattle.vcd_read.proofs.BodyFoldLemmas.{Ends, Follows, Follows-fold_body, ReadFails-followed, ok-followed}
@@ -44,10 +45,6 @@ use Rattle.vme_bind.proofs.OpeningLemmas.{capture_of-is, recording_of-is, record
 use Rattle.vme_bind.proofs.BuilderLemmas.{Makes, makes-first, makes-change, makes-instant}
 
 -- ---- a body
-
--- a value as a result without a fault
-abbrev ok_of : {A E : Type 0} → A → Result A E
-ok_of x = Ok x
 
 -- a recording as a result without a fault
 abbrev ok_trace : Trace → Result Trace CaptureFault
@@ -314,10 +311,6 @@ capture_of_text-limited b text t r e is =
 
 -- ---- the steps of a recording are well formed
 
--- the values of equal results without a fault are equal
-same_ok : {A E : Type 0} (x y : A) → ok_of {A = A} {E = E} x ≡ ok_of y → x ≡ y
-same_ok x y e = cc
-
 -- the recording that a binding makes of a text is well formed
 pub recording_of_text-formed : (b : BoundLines) (text : List ℕ) (t : Trace) → recording_of_text b text ≡ Ok t
     → malformed_step t
@@ -333,7 +326,7 @@ recording_of_text-formed b text t e = by_dump (dump_of text) refl e
         by_result : (r : Result (List Instant) VcdFault) → instants_from d.head.nets d.head.body ≡ r
             → (r >>= with_variables d.variables) ≡ Ok dump → TimesAscend dump.instants
         by_result (Err fault) is e = absurd (cc e)
-        by_result (Ok instants) is e = subst (λ (c : Contents). TimesAscend c.instants) (same_ok _ _ e)
+        by_result (Ok instants) is e = subst (λ (c : Contents). TimesAscend c.instants) (ok-same _ _ _ refl e)
             (TimesAscend-instants_from d.head.nets d.head.body instants is)
 
     by_bound_groups : (dump : Contents) → TimesAscend dump.instants → (r : Result (List BoundGroup) BindFault)
@@ -341,7 +334,7 @@ recording_of_text-formed b text t e = by_dump (dump_of text) refl e
         ≡ Ok t → malformed_step t ≡ None
     by_bound_groups dump up (Err fault) e = absurd (cc e)
     by_bound_groups dump up (Ok bound_groups) e = recording-formed b.slots bound_groups dump.instants t up
-        (same_ok _ _ e)
+        (ok-same _ _ _ refl e)
 
     by_dump : (r : Result Contents VcdFault) → dump_of text ≡ r → recording_read b r ≡ Ok t → malformed_step t ≡ None
     by_dump (Err fault) is e = absurd (cc e)

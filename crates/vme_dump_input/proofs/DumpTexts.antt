@@ -2,6 +2,7 @@
 -- fault.
 use Rattle.std.proofs.Common.{◌≡◌, ℕ, List, [], length, Option, None, Some, refl, sym, ap, subst, ◌∙◌}
 use Rattle.std.specs.Prelude.{Result, Ok, Err}
+use Rattle.std.proofs.lemmas.Option.{same_Some}
 use Rattle.vcd_read.specs.Contents.{Contents}
 use Rattle.vcd_read.specs.Header.{◌>>=◌}
 use Rattle.vcd_read.specs.Meaning.{dump_of, instants_from}
@@ -10,6 +11,7 @@ use Rattle.vcd_read.specs.declared.dump.Instant.{Instant}
 use Rattle.vcd_read.specs.declared.dump.Variable.{Variable}
 use Rattle.vcd_read.specs.declared.fault.VcdFault.{VcdFault}
 use Rattle.vcd_read.proofs.DumpLemmas.{contents_of_header, dump_of-header, whole_header}
+use Rattle.vcd_read.proofs.ResultLemmas.{ok-same}
 use Rattle.vme_trace.specs.Trace.{Trace}
 use Rattle.vme_bind.specs.Binding.{BoundLines}
 use Rattle.vme_bind.specs.BoundGroups.{bound_groups_in}
@@ -37,17 +39,9 @@ module _ (b : BoundLines) where
     pub faulty : (r : TextReading) (fault : VcdFault) → reading ≡ Ok r → r.fault ≡ Some fault → dump ≡ Err fault
     pub fails : (fault : VcdFault) → reading ≡ Err (Dump fault) → dump ≡ Err fault
 
-  -- the readings of equal results are equal
-  same_reading : (x y : TextReading) → ◌≡◌ {A = Result TextReading CaptureFault} (Ok x) (Ok y) → x ≡ y
-  same_reading x y e = cc
-
   -- no fault isn't some fault
   none_some : (x y : Option VcdFault) (fault : VcdFault) → x ≡ y → x ≡ None → y ≡ Some fault → ⊥
   none_some x y fault same none some = absurd (cc)
-
-  -- equal faults that are there are the same fault
-  same_fault : (x y : VcdFault) → ◌≡◌ {A = Option VcdFault} (Some x) (Some y) → x ≡ y
-  same_fault x y e = cc
 
   module _ (d : Defined (List Variable)) where
     -- the contents of a dump with these instants
@@ -70,22 +64,22 @@ module _ (b : BoundLines) where
         ap (λ (w : Result Groups BindFault). w >>= λ g. Ok (recording b.slots g instants (length instants)))
             e
             ∙ ap (λ (x : TextReading). Ok x.recorded)
-            (same_reading (reading_by b.slots groups d.head (Ok instants)) r is),
+            (ok-same (reading_by b.slots groups d.head (Ok instants)) r _ refl is),
       );
       faulty = λ r fault is some.
           absurd (none_some None r.fault fault (ap (λ (x : TextReading). x.fault)
-          (same_reading (reading_by b.slots groups d.head (Ok instants)) r is)) refl some);
+          (ok-same (reading_by b.slots groups d.head (Ok instants)) r _ refl is)) refl some);
       fails = λ fault is. absurd (cc);
     }
     Agrees-instants groups e (Err first) = record {
       whole = λ r is none.
           let same = ap (λ (x : TextReading). x.fault)
-          (same_reading (reading_by b.slots groups d.head (Err first)) r is) in
+          (ok-same (reading_by b.slots groups d.head (Err first)) r _ refl is) in
           absurd (none_some r.fault (Some first) first (sym same) none refl);
       faulty = λ r fault is some.
           let same = ap (λ (x : TextReading). x.fault)
-          (same_reading (reading_by b.slots groups d.head (Err first)) r is) in
-          ap (λ (f : VcdFault). Err f) (same_fault first fault (same ∙ some));
+          (ok-same (reading_by b.slots groups d.head (Err first)) r _ refl is) in
+          ap (λ (f : VcdFault). Err f) (same_Some first fault (same ∙ some));
       fails = λ fault is. absurd (cc);
     }
 
@@ -116,10 +110,6 @@ module _ (b : BoundLines) where
       subst (λ (dump : Result Contents VcdFault). Agrees dump (or_dump (whole_header text) >>= reading_after b))
       (sym (dump_of-header text)) (Agrees-header (whole_header text))
 
-  -- the recordings of equal results are equal
-  same_trace : (x y : Trace) → ◌≡◌ {A = Result Trace BindFault} (Ok x) (Ok y) → x ≡ y
-  same_trace x y e = cc
-
   module _ (contents : Contents) (t : Trace) where
     -- the recording of the contents by these bound groups
     abbrev made : Groups → Trace
@@ -128,7 +118,7 @@ module _ (b : BoundLines) where
     -- where the recording that is made is `t`, so it is within the limit
     limited-made : (groups : Result Groups BindFault) → (groups >>= λ g. Ok (made g)) ≡ Ok t
         → (groups >>= λ g. limited (made g)) ≡ limited t
-    limited-made (Ok groups) is = ap limited (same_trace (made groups) t is)
+    limited-made (Ok groups) is = ap limited (ok-same (made groups) t _ refl is)
     limited-made (Err binding_fault) is = absurd (cc)
 
     -- what is captured is what is recorded, if it isn't too long
