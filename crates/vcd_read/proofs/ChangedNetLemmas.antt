@@ -10,16 +10,11 @@ use Rattle.vcd_read.specs.declared.dump.Value.{Value}
 use Rattle.vcd_read.specs.DumpProgress.{values_from}
 use Rattle.vcd_read.specs.ChangedNets.{ListsChangedNets}
 use Rattle.vcd_read.proofs.CurrentValues.{CurrentValues}
+use Rattle.vcd_read.proofs.ListLemmas.{get_or-replicate_same}
 
 -- the value of a net that has none
 abbrev pub no_bits : Option (List Bit)
 no_bits = None
-
--- in a list of nets without values, no net has a value
-get_or-no_bits : (n net : ℕ) → get_or (replicate n no_bits) net None ≡ None
-get_or-no_bits zero net = refl
-get_or-no_bits (suc n) zero = refl
-get_or-no_bits (suc n) (suc net) = get_or-no_bits n net
 
 -- a value that is there isn't `None`
 IsSome-not_None : (bits : Option (List Bit)) → bits ≡ None → IsSome bits → ⊥
@@ -30,7 +25,8 @@ IsSome-not_None (Some bits) e h = cc
 pub ListsChangedNets-none : (n : ℕ) → ListsChangedNets [] (replicate n no_bits)
 ListsChangedNets-none n = record {
   below = λ k d lt. absurd (omega (arith, lt));
-  listed = λ net some. absurd (IsSome-not_None (get_or (replicate n no_bits) net None) (get_or-no_bits n net) some);
+  listed = λ net some. absurd (IsSome-not_None (get_or (replicate n no_bits) net None)
+      (get_or-replicate_same n no_bits net) some);
 }
 
 -- the list has the net at an index from `place` on

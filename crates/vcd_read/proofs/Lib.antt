@@ -5,6 +5,7 @@ pub mod CodesLemmas
 pub mod CodeIndexLemmas
 pub mod Fill
 pub mod CurrentValues
+pub mod ListLemmas
 pub mod ChangedNetLemmas
 pub mod ResultLemmas
 pub mod ContextLemmas

@@ -18,6 +18,7 @@ use Rattle.vme_trace.specs.declared.step.Step.{Step}
 use Rattle.vcd_read.specs.declared.dump.Instant.{Instant}
 use Rattle.vcd_read.specs.Contents.{Contents, TimesAscend}
 use Rattle.vcd_read.specs.Header.{◌>>=◌}
+use Rattle.vcd_read.proofs.ListLemmas.{get_or-replicate_same}
 use Rattle.vme_bind.specs.declared.fault.BindFault.{BindFault}
 use Rattle.vme_bind.specs.declared.fault.BindFaultKind.TheVariants.{TooManySteps}
 use Rattle.vme_bind.specs.declared.net_lines.NetLines.{NetLines}
@@ -45,12 +46,6 @@ first_level None = Unknown
 first_level (Some (Always level)) = level
 first_level (Some (Bit bit)) = Unknown
 
--- each element of a list of `Unknown` is `Unknown`
-unknown_at : (n k : ℕ) → get_or (replicate n Unknown) k Unknown ≡ Unknown
-unknown_at zero k = refl
-unknown_at (suc n) zero = refl
-unknown_at (suc n) (suc k) = unknown_at n k
-
 -- the lines below n have their levels before any change, and the others are unknown
 pub record IsOpened (slots : ℕ) (bound_groups : List BoundGroup) (n : ℕ) (v : Levels) : Type 0 where
   pub same_slots : v.slots ≡ slots
@@ -66,7 +61,7 @@ IsOpened-first bound_groups v e = record {
   all = ap length e ∙ length-replicate line_count Unknown;
   below = λ l lt. absurd (omega (arith, lt));
   above = λ l le. unwrap_or-slice_get v.levels l Unknown ∙ ap (λ (xs : List Level). get_or xs l Unknown) e
-      ∙ unknown_at line_count l;
+      ∙ get_or-replicate_same line_count Unknown l;
 }
 
 -- if the lines below n have their levels before any change, so do those below n + 1, where the line n is unknown then

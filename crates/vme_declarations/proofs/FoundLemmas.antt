@@ -1,6 +1,6 @@
 -- The groups of the lines that have a bit are found line by line, and the number of slots net by net.
-use Rattle.std.proofs.Common.{◌≡◌, ℕ, zero, suc, ◌+◌, Bool, get_or, refl, ap, sym, ◌∙◌, add-one}
-use Rattle.std.specs.Prelude.{if◌then◌else◌, replicate}
+use Rattle.std.proofs.Common.{◌≡◌, ℕ, ◌+◌, Bool, ap, sym, ◌∙◌, add-one}
+use Rattle.std.specs.Prelude.{if◌then◌else◌}
 use Rattle.vme_declarations.specs.Found.{groups_below, has_net, slots_to, with_group}
 use Rattle.vme_declarations.specs.declared.found_lines.FoundLines.{FoundLines}
 
@@ -24,9 +24,3 @@ slots_to-step found before slots more has so_far is_net is_more =
     ∙ ap (λ (b : Bool). if b then before + 1 else slots) is_net
     ∙ ap (λ (n : ℕ). if has_net found (before + 1) then before + 1 else n) so_far
     ∙ sym (slots_to-next found before)
-
--- each element of `n` times `x` is `x`, and so is the default past the end
-pub get_or-replicate_same : {X : Type 0} (n : ℕ) (x : X) (i : ℕ) → get_or (replicate n x) i x ≡ x
-get_or-replicate_same zero x i = refl
-get_or-replicate_same (suc n) x zero = refl
-get_or-replicate_same (suc n) x (suc i) = get_or-replicate_same n x i

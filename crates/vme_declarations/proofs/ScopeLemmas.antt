@@ -1,10 +1,11 @@
 -- A search over the variables of a dump finds whether they have a scope; it compares the parts of each path alone.
-use Rattle.std.proofs.Common.{◌≡◌, ℕ, ◌≤◌, Bool, true, false, ◌&&◌, ◌||◌, List, [], ◌∷◌, ◌++◌, length, take, drop}
+use Rattle.std.proofs.Common.{◌≡◌, ℕ, ◌≤◌, Bool, false, ◌&&◌, ◌||◌, List, [], ◌∷◌, ◌++◌, length, take, drop}
 use Rattle.std.proofs.Common.{◌<◌, Option, refl, sym, ap, ◌∙◌}
 use Rattle.std.proofs.Common.{append_assoc}
 use Rattle.std.specs.Prelude.{fold, bytes_eq, nat_eq}
 use Rattle.std.specs.Bool.{Decides}
 use Rattle.std.specs.List.{list_any, starts_with}
+use Rattle.std.proofs.Math.Bool.{or-false, or_assoc}
 use Rattle.std.proofs.lemmas.Bool.Decides.{Decides-and, same_from_decides}
 use Rattle.std.proofs.lemmas.List.{drop_at, length-take-le, take-append-drop, take_at}
 use Rattle.std.proofs.lemmas.Slice.Eq.{bytes_eq-Decides}
@@ -17,16 +18,6 @@ use Rattle.vme_declarations.specs.Scopes.{ScopeSought, has_scope, path_begins, s
 
 -- ---- the search
 
--- of three alternatives either two may be joined first
-or-assoc : (a b c : Bool) → ((a || b) || c) ≡ (a || (b || c))
-or-assoc true b c = refl
-or-assoc false b c = refl
-
--- an alternative to `false` is the test itself
-or-false : (a : Bool) → (a || false) ≡ a
-or-false true = refl
-or-false false = refl
-
 -- the state of a search, by its parts
 abbrev sought : List ℕ → Bool → ScopeSought
 sought front found = record { front = front; is_found = found }
@@ -37,7 +28,7 @@ sought_in-all : (front : List ℕ) (found : Bool) (vs : List Variable) → fold 
 sought_in-all front found [] = ap (sought front) (sym (or-false found))
 sought_in-all front found (v ∷ vs) =
     sought_in-all front (found || path_begins front v) vs
-    ∙ ap (sought front) (or-assoc found (path_begins front v) (list_any (path_begins front) vs))
+    ∙ ap (sought front) (or_assoc found (path_begins front v) (list_any (path_begins front) vs))
 
 -- a search over all variables finds whether they have the scope `path`
 pub has_scope-sought : (path first front : List ℕ) (found there : Bool) (vs : List Variable) → first ≡ with_dot path

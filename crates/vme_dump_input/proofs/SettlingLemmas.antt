@@ -1,9 +1,10 @@
 -- The steps that come out as a settler takes several steps, one after the other: with them, what came out is the
 -- settled recording as far as it is complete.
-use Rattle.std.proofs.Common.{◌≡◌, ℕ, ◌+◌, ◌<◌, ◌≤◌, Bool, true, false, ◌&&◌, List, [], ◌∷◌, ◌++◌, Option, None, Some}
+use Rattle.std.proofs.Common.{◌≡◌, ℕ, ◌+◌, ◌<◌, ◌≤◌, Bool, true, ◌&&◌, List, [], ◌∷◌, ◌++◌, Option, None, Some}
 use Rattle.std.proofs.Common.{length, get_or, take, sym, ap, subst, ◌∙◌, append_assoc, append-nil, refl, max, arith}
 use Rattle.std.specs.Prelude.{All, IfOk, OnOk, Result, Ok, Err, nat_le}
 use Rattle.std.specs.Option.{option_to_list}
+use Rattle.std.proofs.Math.Bool.{and-true, and_assoc}
 use Rattle.std.proofs.Math.Nat.{max-eq_right}
 use Rattle.std.proofs.lemmas.Bool.{and_from, le-leb, ltb-true}
 use Rattle.std.proofs.lemmas.Bool.Decides.{nat_tests}
@@ -28,11 +29,6 @@ unfolding reached_at
 reached_at-append reached [] step = refl
 reached_at-append reached (x ∷ xs) step = reached_at-append (max reached x.time) xs step
 
--- a test and `true` is the test
-and-true : (b : Bool) → b ≡ (b && true)
-and-true true = refl
-and-true false = refl
-
 -- to take no steps changes nothing of what is settled
 pub all_taken-none : (s : Settling) → s ≡ all_taken s [] []
 unfolding reached_at are_in_order
@@ -40,21 +36,16 @@ all_taken-none s =
     ap (λ (l : List Step). record s { given = record s.given { steps = l } }) (sym (append-nil s.given.steps))
     ∙ ap (λ (l : List Step). record s { given = with_steps s.given []; out = l }) (sym (append-nil s.out))
     ∙ ap (λ (b : Bool). record s { given = with_steps s.given []; out = s.out ++ []; in_order = b })
-    (and-true s.in_order)
-
--- of three tests either two may be joined first
-and-assoc : (a b c : Bool) → ((a && b) && c) ≡ (a && (b && c))
-and-assoc true b c = refl
-and-assoc false b c = refl
+    (sym (and-true s.in_order))
 
 -- steps with one more are in order if they are, and the one more isn't earlier than the latest time
 are_in_order-append : (reached : ℕ) (steps : List Step) (step : Step)
     → (are_in_order reached steps && nat_le (reached_at reached steps) step.time)
     ≡ are_in_order reached (steps ++ step ∷ [])
 unfolding reached_at are_in_order
-are_in_order-append reached [] step = and-true (nat_le reached step.time)
+are_in_order-append reached [] step = sym (and-true (nat_le reached step.time))
 are_in_order-append reached (x ∷ xs) step =
-    and-assoc (nat_le reached x.time) (are_in_order (max reached x.time) xs)
+    and_assoc (nat_le reached x.time) (are_in_order (max reached x.time) xs)
     (nat_le (reached_at (max reached x.time) xs) step.time)
     ∙ ap (λ (b : Bool). nat_le reached x.time && b) (are_in_order-append (max reached x.time) xs step)
 
@@ -77,7 +68,7 @@ all_taken-append first now steps out step made is =
       reached = n;
     }) (reached_at-append first.reached steps step)
     ∙ ap (λ (b : Bool). record (all_taken first (steps ++ step ∷ []) (out ++ option_to_list made)) { in_order = b })
-    (and-assoc first.in_order (are_in_order first.reached steps) (nat_le (reached_at first.reached steps) step.time)
+    (and_assoc first.in_order (are_in_order first.reached steps) (nat_le (reached_at first.reached steps) step.time)
     ∙ ap (λ (b : Bool). first.in_order && b) (are_in_order-append first.reached steps step))
 
 -- taking step i after the first i steps is taking the first i + 1

@@ -1,5 +1,5 @@
 use Rattle.std.proofs.Common.{false, None}
-use Rattle.vme_declarations.proofs.FoundLemmas.{get_or-replicate_same}
+use Rattle.vcd_read.proofs.ListLemmas.{get_or-replicate_same}
 use Rattle.vme_declarations.proofs.found_lines.FoundLines.none.Goals as goal
 
 pub returns-clause-bits : goal.returns-clause-bits
