@@ -1,15 +1,14 @@
 -- The tokens of one item of a body are taken: after them is a place between two items, and only the times after it are
 -- left.
-use Rattle.std.proofs.Common.{◌≡◌, ℕ, ◌^◌, ◌≤◌, Bool, true, false, cond, List, [], ◌∷◌, ◌++◌}
-use Rattle.std.proofs.Common.{Option, Some}
-use Rattle.std.proofs.Common.{None, Ok, Err, length, take, drop, refl, sym, ap, subst, ◌∙◌, append_assoc}
-use Rattle.std.specs.Prelude.{IfNone, nat_lt, unwrap_or}
+use Rattle.std.proofs.Common.{◌≡◌, ℕ, ◌≤◌, Bool, true, false, List, [], ◌∷◌, ◌++◌, Option, Some, None, Result, Ok, Err}
+use Rattle.std.proofs.Common.{length, take, drop, refl, sym, ap, subst, ◌∙◌, append_assoc}
+use Rattle.std.specs.Prelude.{IfNone}
 use Rattle.std.specs.List.{cons_option, list_any}
 use Rattle.std.proofs.lemmas.Bool.{or_parts}
-use Rattle.vcd_read.specs.declared.fault.FaultKind.TheVariants.{BadToken, NumberTooLarge}
+use Rattle.vcd_read.specs.declared.fault.FaultKind.{FaultKind}
 use Rattle.vcd_read.specs.Tokens.{Token, tokens}
 use Rattle.vcd_read.specs.Reading.{tokens_after}
-use Rattle.vcd_read.specs.Numbers.{is_number, number, time_of}
+use Rattle.vcd_read.specs.Numbers.{number, time_of}
 use Rattle.vcd_read.specs.Header.{Header, between, header_from, is_end}
 use Rattle.vcd_read.specs.Body.{BodyItem, Shape, body_from, dump_section_end, dump_section_open, change}
 use Rattle.vcd_read.specs.Body.{comment, end_shape, foreign, in_comment, none, open_shape, ready}
@@ -17,6 +16,7 @@ use Rattle.vcd_read.specs.Body.{scalar}
 use Rattle.vcd_read.specs.Body.{shape_of, skipped, time_item, time_shape, vector, wrong}
 use Rattle.vcd_read.specs.Meaning.{last_time}
 use Rattle.vcd_read.proofs.BodyLemmas.{body_from-shape, commented}
+use Rattle.vcd_read.proofs.ContextLemmas.{number-time_of}
 use Rattle.vcd_places.specs.Items.{BegunKind, code_kind, comment_kind, kind_of, single_kind, time_kind}
 use Rattle.vcd_places.specs.Places.{AreWholeItems, IsAtTime, body_in, starts_at_boundary}
 use Rattle.vcd_places.specs.Places.{if_time, item_time}
@@ -213,7 +213,7 @@ pub record AreTaken (text : List ℕ) (at next : ℕ) (ts : List Token) : Type 0
   pub left : tokens_after 1 text at ≡ ts ++ tokens_after 1 text next
   pub taken : tokens (take next text) ≡ tokens (take at text) ++ ts
 
-module _ (text : List ℕ) (at next : ℕ) (ts : List Token) (times : List ℕ) (b : IsBetweenItems text at)
+module _ {text : List ℕ} {at next : ℕ} {ts : List Token} {times : List ℕ} (b : IsBetweenItems text at)
     (taken : AreTaken text at next ts) (item : IsItem ts times) where
   -- the body before `next` is that before `at`, and the tokens that are taken
   ended : body_in (take next text) ≡ Some (b.body ++ ts)
@@ -251,7 +251,7 @@ module _ (text : List ℕ) (at next : ℕ) (ts : List Token) (times : List ℕ) 
 
 -- ---- one token, and more, are taken
 
-module _ (text : List ℕ) (at next : ℕ) (bytes : List ℕ) (one : IsNextToken text at next bytes) where
+module _ {text : List ℕ} {at next : ℕ} {bytes : List ℕ} (one : IsNextToken text at next bytes) where
   -- the token that is taken
   abbrev pub token : Token
   token = record { line = one.line; bytes = bytes }
@@ -261,9 +261,9 @@ module _ (text : List ℕ) (at next : ℕ) (bytes : List ℕ) (one : IsNextToken
   AreTaken-one = record { within = one.within; detached = one.detached; left = one.left; taken = one.taken }
 
   -- the token and the one after it are taken
-  pub AreTaken-two : (end : ℕ) (code : List ℕ) (two : IsNextToken text next end code)
+  pub AreTaken-two : {end : ℕ} {code : List ℕ} (two : IsNextToken text next end code)
       → AreTaken text at end (token ∷ record { line = two.line; bytes = code } ∷ [])
-  AreTaken-two end code two = record {
+  AreTaken-two {code = code} two = record {
     within = two.within;
     detached = two.detached;
     left = one.left ∙ ap (λ (ts : List Token). token ∷ ts) two.left;
@@ -272,9 +272,9 @@ module _ (text : List ℕ) (at next : ℕ) (bytes : List ℕ) (one : IsNextToken
   }
 
   -- the token, and the tokens up to and including the next `$end`, are taken
-  pub AreTaken-section : (end : ℕ) (e : IsTakenToEnd text next end)
+  pub AreTaken-section : {end : ℕ} (e : IsTakenToEnd text next end)
       → AreTaken text at end (token ∷ (e.words ++ e.last ∷ []))
-  AreTaken-section end e = record {
+  AreTaken-section {end = end} e = record {
     within = e.within;
     detached = e.detached;
     left = one.left ∙ ap (λ (ts : List Token). token ∷ ts) (e.left
@@ -285,61 +285,46 @@ module _ (text : List ℕ) (at next : ℕ) (bytes : List ℕ) (one : IsNextToken
 
 -- ---- a time is taken
 
--- a time that both tests let pass is the number
-number-by_tests : (a b : Bool) (n time : ℕ) → if_time (cond a (cond b (Ok n) (Err NumberTooLarge)) (Err BadToken))
-    ≡ Some time
-    → n ≡ time
-number-by_tests true true n time e = ap (λ (o : Option ℕ). unwrap_or o 0) e
-number-by_tests true false n time e = absurd cc
-number-by_tests false b n time e = absurd cc
-
--- a time below 2^64 is the number of its digits
-number-if_time : (digits : List ℕ) (time : ℕ) → if_time (time_of digits) ≡ Some time → number digits ≡ time
-number-if_time digits time e = number-by_tests (is_number digits) (nat_lt (number digits) (2 ^ 64)) (number digits) time
-    e
-
 -- after a token that is a time below 2^64, the place is between two items, and this is the current time
-pub IsAtTime-time : (text : List ℕ) (at next : ℕ) (bytes digits : List ℕ) (time : ℕ) (b : IsBetweenItems text at)
-    (one : IsNextToken text at next bytes) → kind_of (shape_of bytes) ≡ time_kind digits
-    → if_time (time_of digits) ≡ Some time → IsAtTime text time next
+pub IsAtTime-time : {text : List ℕ} {at next : ℕ} {bytes : List ℕ} (digits : List ℕ) (time : ℕ)
+    (b : IsBetweenItems text at) (one : IsNextToken text at next bytes)
+    → kind_of (shape_of bytes) ≡ time_kind digits → time_of digits ≡ Ok time → IsAtTime text time next
 unfolding body_from
-IsAtTime-time text at next bytes digits time b one is e =
-    let t : Token = token text at next bytes one in
+IsAtTime-time digits time b one is e =
+    let t : Token = token one in
+    let taken = AreTaken-one one in
     let item = IsItem-time t digits is in
-    let next_between = IsBetweenItems-next text at next (t ∷ []) (cons_option (if_time (time_of digits)) []) b
-    (AreTaken-one text at next bytes one) item in
+    let next_between = IsBetweenItems-next b taken item in
     record {
       within = next_between.within;
       detached = next_between.detached;
       body = b.body ++ t ∷ [];
-      ended = ended text at next (t ∷ []) (cons_option (if_time (time_of digits)) []) b
-          (AreTaken-one text at next bytes one) item;
-      whole = AreWholeItems-taken text at next (t ∷ []) (cons_option (if_time (time_of digits)) []) b
-          (AreTaken-one text at next bytes one) item;
+      ended = ended b taken item;
+      whole = AreWholeItems-taken b taken item;
       time_is = ap (last_time 0) (b.whole (t ∷ [])
           ∙ ap (λ (items : List BodyItem). body_from ready b.body ++ items) (body_from-time t digits is []))
-          ∙ last_time-push (body_from ready b.body) 0 t.line digits ∙ number-if_time digits time e;
+          ∙ last_time-push (body_from ready b.body) 0 t.line digits ∙ number-time_of digits time e;
     }
 
 -- a time token below 2^64 is an item with this time
 pub IsItem-timed : (t : Token) (digits : List ℕ) (time : ℕ) → kind_of (shape_of t.bytes) ≡ time_kind digits
-    → if_time (time_of digits) ≡ Some time → IsItem (t ∷ []) (time ∷ [])
-IsItem-timed t digits time is e = subst (λ (o : Option ℕ). IsItem (t ∷ []) (cons_option o [])) e
+    → time_of digits ≡ Ok time → IsItem (t ∷ []) (time ∷ [])
+IsItem-timed t digits time is e = subst (λ (r : Result ℕ FaultKind). IsItem (t ∷ []) (cons_option (if_time r) [])) e
     (IsItem-time t digits is)
 
 -- a time token whose digits aren't a number below 2^64 is an item without a time
-pub IsItem-untimed : (t : Token) (digits : List ℕ) → kind_of (shape_of t.bytes) ≡ time_kind digits
-    → if_time (time_of digits) ≡ None → IsItem (t ∷ []) []
-IsItem-untimed t digits is e = subst (λ (o : Option ℕ). IsItem (t ∷ []) (cons_option o [])) e (IsItem-time t digits is)
+pub IsItem-untimed : (t : Token) (digits : List ℕ) {kind : FaultKind} → kind_of (shape_of t.bytes) ≡ time_kind digits
+    → time_of digits ≡ Err kind → IsItem (t ∷ []) []
+IsItem-untimed t digits is e = subst (λ (r : Result ℕ FaultKind). IsItem (t ∷ []) (cons_option (if_time r) [])) e
+    (IsItem-time t digits is)
 
 -- after an item without a time, `next` is between two items, and the same times are left
-pub IsBetweenItems-without_time : (text : List ℕ) (at next : ℕ) (ts : List Token) → IsBetweenItems text at
+pub IsBetweenItems-without_time : {text : List ℕ} {at next : ℕ} {ts : List Token} → IsBetweenItems text at
     → AreTaken text at next ts
     → IsItem ts []
     → IsBetweenItems text next
     × (times_left (record { text = text; at = next }) ≡ times_left (record { text = text; at = at }))
-IsBetweenItems-without_time text at next ts b taken item =
-    (IsBetweenItems-next text at next ts [] b taken item, sym (times_left-next text at next ts [] b taken item))
+IsBetweenItems-without_time b taken item = (IsBetweenItems-next b taken item, sym (times_left-next b taken item))
 
 -- ---- no time is left
 
@@ -355,18 +340,18 @@ unfolding body_from item_times
 times_left-no_tokens text at empty = ap (λ (ts : List Token). item_times (body_from ready ts)) empty
 
 -- where a token whose code is missing is the last, no time is left
-pub times_left-code_missing : (text : List ℕ) (at next : ℕ) (bytes : List ℕ) (one : IsNextToken text at next bytes)
+pub times_left-code_missing : {text : List ℕ} {at next : ℕ} {bytes : List ℕ} (one : IsNextToken text at next bytes)
     → kind_of (shape_of bytes) ≡ code_kind → tokens_after 1 text next ≡ []
     → times_left (record { text = text; at = at }) ≡ []
-times_left-code_missing text at next bytes one is empty =
-    let t : Token = token text at next bytes one in
+times_left-code_missing one is empty =
+    let t : Token = token one in
     ap (λ (ts : List Token). item_times (body_from ready ts)) (one.left ∙ ap (λ (ts : List Token). t ∷ ts) empty)
     ∙ item_times-code_alone t is
 
 -- from a comment on that has no `$end`, no time is left
-pub times_left-comment_unended : (text : List ℕ) (at next : ℕ) (bytes : List ℕ) (one : IsNextToken text at next bytes)
+pub times_left-comment_unended : {text : List ℕ} {at next : ℕ} {bytes : List ℕ} (one : IsNextToken text at next bytes)
     → kind_of (shape_of bytes) ≡ comment_kind → list_any ends_section (tokens_after 1 text next) ≡ false
     → times_left (record { text = text; at = at }) ≡ []
-times_left-comment_unended text at next bytes one is none_ends =
+times_left-comment_unended {text = text} {next = next} one is none_ends =
     ap (λ (ts : List Token). item_times (body_from ready ts)) one.left
-    ∙ item_times-comment_alone (token text at next bytes one) (tokens_after 1 text next) is none_ends
+    ∙ item_times-comment_alone (token one) (tokens_after 1 text next) is none_ends

@@ -96,11 +96,11 @@ is_between_sections-item front items last none is e =
     ∙ ap not (list_any-append is_unfinished items (last ∷ [])
     ∙ ap (λ (test : Bool). test || (is_unfinished last || false)) none ∙ ap (λ (test : Bool). test || false) is)
 
-module _ (text : List ℕ) (at next : ℕ) (bytes : List ℕ) (between_sections : is_between_sections (take at text) ≡ true)
-    (one : IsNextToken text at next bytes) where
+module _ {text : List ℕ} {at next : ℕ} {bytes : List ℕ} (one : IsNextToken text at next bytes)
+    (between_sections : is_between_sections (take at text) ≡ true) where
   -- the token that is taken
   abbrev first : Token
-  first = token text at next bytes one
+  first = token one
 
   -- the items of the definitions before it
   abbrev items : List HeaderItem
@@ -124,10 +124,10 @@ module _ (text : List ℕ) (at next : ℕ) (bytes : List ℕ) (between_sections 
   unfolding header_from
   header_from-opened ts opens = ap (from_between first ts) opens
 
-  module _ (end : ℕ) (opens : opens_section bytes ≡ true) (e : IsTakenToEnd text next end) where
+  module _ {end : ℕ} (opens : opens_section bytes ≡ true) (e : IsTakenToEnd text next end) where
     -- the tokens up to `end` are those before the section, and its own
     tokens_up_to_end : tokens (take end text) ≡ tokens (take at text) ++ first ∷ (e.words ++ e.last ∷ [])
-    tokens_up_to_end = (AreTaken-section text at next bytes one end e).taken
+    tokens_up_to_end = (AreTaken-section one e).taken
 
     -- the header up to `end` has the items before the section, and then what the section gives
     header_from-up_to_end : header_from between (tokens (take end text))

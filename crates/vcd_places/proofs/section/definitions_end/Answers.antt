@@ -16,31 +16,27 @@ loop-first-init c = record {
 
 pub loop-first-preserved-then-not-opens_section : goal.loop-first-preserved-then-not-opens_section
 loop-first-preserved-then-not-opens_section c =
-    let text = c.args.text.now in
     let one = rw c.loop-first.invariant.same at c.in-Some.ensures.token in
     record {
       same = c.in-Some.ensures.text ∙ c.loop-first.invariant.same;
-      between_sections = is_between_sections-stray text c.loop-first.reader.at c.next.new.self.at
-          c.in-Some.first.bytes.now
-          c.loop-first.invariant.between_sections one (sym c.if-not-opens_section.ensures);
-      boundary = is_token_boundary-detached text c.next.new.self.at one.within one.detached;
+      between_sections = is_between_sections-stray one c.loop-first.invariant.between_sections
+          (sym c.if-not-opens_section.ensures);
+      boundary = is_token_boundary-detached c.args.text.now c.next.new.self.at one.within one.detached;
     }
 
 pub returns-then-not-skip_past_end-clause-none : goal.returns-then-not-skip_past_end-clause-none
 returns-then-not-skip_past_end-clause-none c =
     let one = rw c.loop-first.invariant.same at c.in-Some.ensures.token in
     let same = c.in-Some.ensures.text ∙ c.loop-first.invariant.same in
-    body_in-endless_section c.args.text.now c.loop-first.reader.at c.next.new.self.at c.in-Some.first.bytes.now
-    c.loop-first.invariant.between_sections one c.loop-first.invariant.boundary (sym c.if-not-opens_section.ensures)
-    (rw same at (c.if-not-skip_past_end.ensures.none refl))
+    body_in-endless_section one c.loop-first.invariant.between_sections c.loop-first.invariant.boundary
+    (sym c.if-not-opens_section.ensures) (rw same at (c.if-not-skip_past_end.ensures.none refl))
 
 pub new-requires : goal.new-requires
 new-requires c =
     let one = rw c.loop-first.invariant.same at c.in-Some.ensures.token in
     let same = c.in-Some.ensures.text ∙ c.loop-first.invariant.same in
     let word : bytes_eq c.in-Some.first.bytes.now (codes "$enddefinitions") ≡ true = search rules in
-    IsBetweenItems-start_of_body c.args.text.now c.loop-first.reader.at c.next.new.self.at c.in-Some.first.bytes.now
-    c.loop-first.invariant.between_sections one c.skip_past_end.new.reader.at (sym c.if-not-opens_section.ensures)
+    IsBetweenItems-start_of_body one c.loop-first.invariant.between_sections (sym c.if-not-opens_section.ensures)
     (rw same at (c.if-not-skip_past_end.ensures.end refl)) word
 
 pub returns-then-eq-clause-end : goal.returns-then-eq-clause-end
@@ -48,8 +44,7 @@ returns-then-eq-clause-end c =
     let one = rw c.loop-first.invariant.same at c.in-Some.ensures.token in
     let same = c.in-Some.ensures.text ∙ c.loop-first.invariant.same in
     let word : bytes_eq c.in-Some.first.bytes.now (codes "$enddefinitions") ≡ true = search rules in
-    IsAtTime-start_of_body c.args.text.now c.loop-first.reader.at c.next.new.self.at c.in-Some.first.bytes.now
-    c.loop-first.invariant.between_sections one c.skip_past_end.new.reader.at (sym c.if-not-opens_section.ensures)
+    IsAtTime-start_of_body one c.loop-first.invariant.between_sections (sym c.if-not-opens_section.ensures)
     (rw same at (c.if-not-skip_past_end.ensures.end refl)) word
 
 pub returns-then-eq-clause-order : goal.returns-then-eq-clause-order
@@ -64,24 +59,20 @@ returns-then-eq-clause-times c =
     let one = rw c.loop-first.invariant.same at c.in-Some.ensures.token in
     let same = c.in-Some.ensures.text ∙ c.loop-first.invariant.same in
     let word : bytes_eq c.in-Some.first.bytes.now (codes "$enddefinitions") ≡ true = search rules in
-    rw c.new.ensures (times_left-start_of_body c.args.text.now c.loop-first.reader.at c.next.new.self.at
-    c.in-Some.first.bytes.now
-    c.loop-first.invariant.between_sections one c.skip_past_end.new.reader.at (sym c.if-not-opens_section.ensures)
-    (rw same at (c.if-not-skip_past_end.ensures.end refl)) word)
+    rw c.new.ensures (times_left-start_of_body one c.loop-first.invariant.between_sections
+    (sym c.if-not-opens_section.ensures) (rw same at (c.if-not-skip_past_end.ensures.end refl)) word)
 
 pub loop-first-preserved : goal.loop-first-preserved
 loop-first-preserved c =
-    let text = c.args.text.now in
     let one = rw c.loop-first.invariant.same at c.in-Some.ensures.token in
     let same = c.in-Some.ensures.text ∙ c.loop-first.invariant.same in
     let word : bytes_eq c.in-Some.first.bytes.now (codes "$enddefinitions") ≡ false = search rules in
     let end = rw same at (c.if-not-skip_past_end.ensures.end refl) in
     record {
       same = c.if-not-skip_past_end.ensures.text ∙ same;
-      between_sections = is_between_sections-whole text c.loop-first.reader.at c.next.new.self.at
-          c.in-Some.first.bytes.now c.loop-first.invariant.between_sections one c.skip_past_end.new.reader.at
+      between_sections = is_between_sections-whole one c.loop-first.invariant.between_sections
           (sym c.if-not-opens_section.ensures) end word;
-      boundary = is_token_boundary-detached text c.skip_past_end.new.reader.at end.within end.detached;
+      boundary = is_token_boundary-detached c.args.text.now c.skip_past_end.new.reader.at end.within end.detached;
     }
 
 pub returns-clause-none : goal.returns-clause-none
