@@ -252,7 +252,7 @@ pub record IsBegun (front left : List ℕ) (h : Headed) (r : Reached ℕ) : Type
   pub body : tokens_from r.line left ≡ h.body
   pub line : line_behind r.line left ≡ line_behind 1 front
 
-module _ (front left : List ℕ) (h : Headed) (r : Reached ℕ) (begun : IsBegun front left h r)
+module _ {front left : List ℕ} {h : Headed} {r : Reached ℕ} (begun : IsBegun front left h r)
     (ends : EndsBetweenTokens front) where
   -- the count of the whole body is that from `r` on
   fold_body-begun : (more : List Token) → fold_body same_count next_count h.nets 0 (h.body ++ more)

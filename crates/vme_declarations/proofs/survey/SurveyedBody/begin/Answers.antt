@@ -14,12 +14,11 @@ progress_of n = record { accumulator = n; time = 0; has_instant = false }
 
 pub returns-in_ok-from_slice-in-Ok-clause-begun : goal.returns-in_ok-from_slice-in-Ok-clause-begun
 returns-in_ok-from_slice-in-Ok-clause-begun c =
-    let front = c.args.front.now in
-    let left = c.before_body-body_reader.result.1.now in
     let first = c.before_body-body_reader.ensures in
     let found = rw c.in-Ok-Some.field-0-is at c.in-Ok-Some.ensures.header in
     let line = rw c.in-Ok-Some.field-0-is at c.in-Ok-Some.ensures.line in
-    let begun : IsBegun front left c.in-Ok-Some.head.head (reached seen c.before_body-body_reader.result.0) = record {
+    let begun : IsBegun c.args.front.now c.before_body-body_reader.result.1.now c.in-Ok-Some.head.head
+    (reached seen c.before_body-body_reader.result.0) = record {
       header = found;
       nets = first.nets;
       progress = first.progress ∙ ap progress_of c.none.ensures;
@@ -29,18 +28,15 @@ returns-in_ok-from_slice-in-Ok-clause-begun c =
       line = first.line ∙ line;
     } in
     rw c.in_ok-from_slice-in-Ok.ensures.items
-    (survey_of-begun_read front left c.in-Ok-Some.head.head (reached seen c.before_body-body_reader.result.0) begun
-    c.requires
-    (reached seen c.in-Ok.body_reader) c.in-Ok.ensures.line c.in-Ok.ensures.rest)
+    (survey_of-begun_read begun c.requires (reached seen c.in-Ok.body_reader) c.in-Ok.ensures.line c.in-Ok.ensures.rest)
 
 pub returns-in-Err-read-clause-err : goal.returns-in-Err-read-clause-err
 returns-in-Err-read-clause-err c =
-    let front = c.args.front.now in
-    let left = c.before_body-body_reader.result.1.now in
     let first = c.before_body-body_reader.ensures in
     let found = rw c.in-Ok-Some.field-0-is at c.in-Ok-Some.ensures.header in
     let line = rw c.in-Ok-Some.field-0-is at c.in-Ok-Some.ensures.line in
-    let begun : IsBegun front left c.in-Ok-Some.head.head (reached seen c.before_body-body_reader.result.0) = record {
+    let begun : IsBegun c.args.front.now c.before_body-body_reader.result.1.now c.in-Ok-Some.head.head
+    (reached seen c.before_body-body_reader.result.0) = record {
       header = found;
       nets = first.nets;
       progress = first.progress ∙ ap progress_of c.none.ensures;
@@ -49,9 +45,7 @@ returns-in-Err-read-clause-err c =
       body = first.body;
       line = first.line ∙ line;
     } in
-    survey_of-begun_fails front left c.in-Ok-Some.head.head (reached seen c.before_body-body_reader.result.0) begun
-    c.requires
-    c.in-Err-read.fault c.in-Err-read.ensures.rest
+    survey_of-begun_fails begun c.requires c.in-Err-read.fault c.in-Err-read.ensures.rest
 
 pub returns-in-Err-clause-err : goal.returns-in-Err-clause-err
 returns-in-Err-clause-err c = survey_of-front_fails c.args.front.now c.in-Err.fault c.requires c.in-Err.ensures.header
