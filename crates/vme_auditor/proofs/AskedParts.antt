@@ -34,14 +34,14 @@ use Rattle.vme_monitor.proofs.Alongside.{slice_get-below, levels_at-step, levels
 use Rattle.vme_monitor.proofs.StretchLists.{judged_stretches-started, started_stretches}
 use Rattle.vme_dtb.specs.Machine.{dtb_begin}
 use Rattle.vme_dtb.specs.declared.memory.HandshakeMemory.{HandshakeMemory}
-use Rattle.vme_summary.specs.Runs.{handshake_run, known_run}
+use Rattle.vme_summary.specs.Runs.{handshake_at, handshake_run, known_at, known_run}
 use Rattle.vme_summary.proofs.Sound.{SoundParts-of_well_formed}
 use Rattle.vme_audit.specs.AskedRules.{asking_end, asks, asks_in, happens}
 use Rattle.vme_audit.specs.Parts.{Part, named_break, own_break, part_after, parts_from}
 use Rattle.vme_auditor.specs.Audited.{AuditReached, events_by, with_step, with_stretch}
 use Rattle.vme_auditor.specs.Events.{asks_by}
 use Rattle.vme_auditor.specs.FirstBreak.{first_break_from}
-use Rattle.vme_auditor.specs.Memories.{first_fault_of, handshake_at, known_at, memories_at, memories_next}
+use Rattle.vme_auditor.specs.Memories.{first_fault_of, memories_at, memories_next}
 use Rattle.vme_auditor.specs.declared.asked.AskedEvents.{AskedEvents}
 use Rattle.vme_auditor.specs.declared.memories.Memories.{Memories}
 use Rattle.vme_auditor.proofs.AskedSteps.{asked_to, happened_by, list_any-later_stretches, HaveHappened-asked_to}

@@ -44,10 +44,10 @@ use Rattle.vme_dtb.specs.declared.memory.HandshakeMemory.{HandshakeMemory}
 use Rattle.vme_dtb.proofs.HandshakeMeaning.{Holds}
 use Rattle.vme_dtb.proofs.HandshakeInstants.{Holds-at}
 use Rattle.vme_dtb.proofs.StillSteps.{machine_step-dtb_next}
+use Rattle.vme_summary.specs.Runs.{handshake_at, known_at}
 use Rattle.vme_audit.specs.AskedRules.{happens}
 use Rattle.vme_auditor.specs.Audited.{events_by, events_in, with_stretch}
 use Rattle.vme_auditor.specs.Events.{asks_by, at_step}
-use Rattle.vme_auditor.specs.Memories.{handshake_at, known_at}
 use Rattle.vme_auditor.specs.declared.asked.AskedEvents.{AskedEvents}
 use Rattle.vme_auditor.proofs.AskedAt.{asks_by-after_step, shown}
 use Rattle.vme_auditor.proofs.EventFields.{stretch-at_step}

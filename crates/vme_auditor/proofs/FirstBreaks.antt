@@ -16,10 +16,10 @@ use Rattle.vme_monitor.specs.RuleMonitors.{run_within}
 use Rattle.vme_monitor.specs.Run.{break_of_fault}
 use Rattle.vme_monitor.specs.declared.mark.Fault.{Fault}
 use Rattle.vme_audit.specs.Parts.{named_break}
+use Rattle.vme_summary.specs.Runs.{acknowledge_at, grant_at, handshake_at, known_at, stability_at}
 use Rattle.vme_summary.specs.Runs.{acknowledge_run, grant_run, handshake_run, known_run, stability_run}
 use Rattle.vme_auditor.specs.FirstBreak.{first_break_from}
-use Rattle.vme_auditor.specs.Memories.{acknowledge_at, comes_before, fault_at, first_fault, first_fault_of, grant_at}
-use Rattle.vme_auditor.specs.Memories.{handshake_at, known_at, memories_next, stability_at}
+use Rattle.vme_auditor.specs.Memories.{comes_before, fault_at, first_fault, first_fault_of, memories_next}
 use Rattle.vme_auditor.specs.declared.memories.Memories.{Memories}
 
 -- the fault `f`, if there is one, as a break at instant 1

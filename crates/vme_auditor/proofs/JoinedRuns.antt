@@ -15,9 +15,10 @@ use Rattle.vme_monitor.specs.Run.{kinds_of, mark_at}
 use Rattle.vme_monitor.specs.declared.mark.Mark.{Mark}
 use Rattle.vme_monitor.specs.declared.mark.MarkKind.{MarkKind}
 use Rattle.vme_monitor.proofs.MergingMarks.{merged-nothing}
+use Rattle.vme_summary.specs.Runs.{grant_at, handshake_at, known_at}
 use Rattle.vme_summary.specs.Runs.{acknowledge_run, grant_run, handshake_run, known_run, stability_run}
 use Rattle.vme_auditor.specs.JoinedMarks.{joined_marks, kinds_shown}
-use Rattle.vme_auditor.specs.Memories.{grant_at, handshake_at, known_at, memories_next}
+use Rattle.vme_auditor.specs.Memories.{memories_next}
 use Rattle.vme_auditor.specs.declared.memories.Memories.{Memories}
 use Rattle.vme_auditor.proofs.ShownKinds.{AllBelow, AllFrom, IsNothing-acknowledge, AllFrom-append, OfTenure-grant}
 use Rattle.vme_auditor.proofs.ShownKinds.{OfTransfer-handshake}

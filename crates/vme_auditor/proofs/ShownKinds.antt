@@ -33,7 +33,7 @@ use Rattle.vme_dtb.specs.StabilityRules.{stability_start_marks, stability_observ
 use Rattle.vme_chains.specs.GrantRules.{grant_begin, grant_end_fault, grant_next, grant_start_marks, grant_observation}
 use Rattle.vme_chains.specs.AcknowledgeRules.{acknowledge_begin, acknowledge_end_fault, acknowledge_next}
 use Rattle.vme_chains.specs.AcknowledgeRules.{acknowledge_start_marks, acknowledge_observation}
-use Rattle.vme_auditor.specs.Memories.{acknowledge_at, grant_at, handshake_at, known_at, stability_at}
+use Rattle.vme_summary.specs.Runs.{acknowledge_at, grant_at, handshake_at, known_at, stability_at}
 use Rattle.vme_auditor.specs.declared.memories.Memories.{Memories}
 
 -- if the start marks, the reset marks and what the rules show satisfy `AreItsKinds`, so does what a machine run over

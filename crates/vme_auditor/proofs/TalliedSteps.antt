@@ -23,10 +23,11 @@ use Rattle.vme_monitor.specs.declared.mark.MarkKind.{MarkKind}
 use Rattle.vme_monitor.specs.declared.mark.MarkKind.TheVariants as kind
 use Rattle.vme_monitor.specs.declared.mark.StepMarks.{StepMarks}
 use Rattle.vme_monitor.specs.declared.mark.TransferAnswer.{TransferAnswer}
+use Rattle.vme_summary.specs.Runs.{grant_at, handshake_at, known_at}
 use Rattle.vme_auditor.specs.Audited.{AuditReached, with_step}
 use Rattle.vme_auditor.specs.FirstBreak.{first_break_from}
 use Rattle.vme_auditor.specs.JoinedMarks.{joined_marks, kinds_shown}
-use Rattle.vme_auditor.specs.Memories.{first_fault_of, grant_at, handshake_at, known_at, memories_at, memories_next}
+use Rattle.vme_auditor.specs.Memories.{first_fault_of, memories_at, memories_next}
 use Rattle.vme_auditor.specs.Tallied.{at_answer, at_break, at_cycle, at_reset, at_tenure, at_transfer, counted, tallied}
 use Rattle.vme_auditor.specs.declared.memories.Memories.{Memories}
 use Rattle.vme_auditor.specs.declared.tally.StartedTransfer.{StartedTransfer}

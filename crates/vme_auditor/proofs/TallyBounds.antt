@@ -15,8 +15,9 @@ use Rattle.vme_monitor.specs.declared.mark.CycleStart.{CycleStart}
 use Rattle.vme_monitor.specs.declared.mark.Fault.{Fault}
 use Rattle.vme_monitor.specs.declared.mark.StepMarks.{StepMarks}
 use Rattle.vme_monitor.specs.declared.mark.TransferAnswer.{TransferAnswer}
+use Rattle.vme_summary.specs.Runs.{grant_at, handshake_at, known_at}
 use Rattle.vme_audit.specs.declared.counts.Counts.{Counts}
-use Rattle.vme_auditor.specs.Memories.{first_fault_of, grant_at, handshake_at, known_at, memories_next}
+use Rattle.vme_auditor.specs.Memories.{first_fault_of, memories_next}
 use Rattle.vme_auditor.specs.Tallied.{answered, at_answer, at_break, at_cycle, at_reset, at_tenure, at_transfer}
 use Rattle.vme_auditor.specs.Tallied.{counted, left_pending, of_class, of_direction, tallied, to_pending}
 use Rattle.vme_auditor.specs.declared.memories.Memories.{Memories}

@@ -16,9 +16,9 @@ use Rattle.vme_monitor.specs.declared.over_stretches.StretchPhase.TheVariants.{I
 use Rattle.vme_monitor.specs.declared.view.End.{End}
 use Rattle.vme_monitor.specs.declared.view.StepView.{StepView}
 use Rattle.vme_dtb.specs.declared.memory.HandshakeMemory.{HandshakeMemory}
+use Rattle.vme_summary.specs.Runs.{grant_at, handshake_at, known_at}
 use Rattle.vme_auditor.specs.Events.{at_step, nothing_happened}
-use Rattle.vme_auditor.specs.Memories.{fault_at, first_fault_of, grant_at, handshake_at, known_at, memories_at}
-use Rattle.vme_auditor.specs.Memories.{memories_next}
+use Rattle.vme_auditor.specs.Memories.{fault_at, first_fault_of, memories_at, memories_next}
 use Rattle.vme_auditor.specs.Tallied.{at_break, counted, no_counts, tallied}
 use Rattle.vme_auditor.specs.declared.asked.AskedEvents.{AskedEvents}
 use Rattle.vme_auditor.specs.declared.audit.Audit.{Audit}

@@ -9,7 +9,8 @@ use Rattle.vme_monitor.specs.Outcome.{shifted_mark}
 use Rattle.vme_monitor.specs.Run.{kinds_of, mark_at}
 use Rattle.vme_monitor.specs.declared.mark.Mark.{Mark}
 use Rattle.vme_monitor.specs.declared.mark.MarkKind.{MarkKind}
-use Rattle.vme_auditor.specs.Memories.{grant_at, handshake_at, known_at, memories_next}
+use Rattle.vme_summary.specs.Runs.{grant_at, handshake_at, known_at}
+use Rattle.vme_auditor.specs.Memories.{memories_next}
 use Rattle.vme_auditor.specs.declared.memories.Memories.{Memories}
 
 -- the kinds of the marks of a step between the levels `before` and `after`, where the monitors have the memories m, in

@@ -2,20 +2,14 @@
 use Rattle.std.proofs.Common.{◌≡◌, ℕ, ◌+◌, ◌<◌, ◌^◌, Bool, List, ◌++◌, length}
 use Rattle.vme_trace.specs.Levels.{Levels}
 use Rattle.vme_trace.specs.Trace.{levels_after}
+use Rattle.vme_trace.specs.declared.step.Change.{Change}
 use Rattle.vme_trace.specs.declared.step.Step.{Step}
-use Rattle.vme_monitor.specs.KnownRules.{known_begin, known_end_fault, known_next, known_start_marks, known_reset_marks}
-use Rattle.vme_monitor.specs.KnownRules.{known_observation}
 use Rattle.vme_monitor.specs.Outcome.{IsWithin, Outcome, composed_outcome}
-use Rattle.vme_monitor.specs.OverStretches.{observed, phase_step}
-use Rattle.vme_monitor.specs.Run.{no_step_marks, machine_step}
+use Rattle.vme_monitor.specs.Run.{run_of}
 use Rattle.vme_monitor.specs.RuleMonitors.{run_within}
 use Rattle.vme_monitor.specs.Runs.{run_joined}
-use Rattle.vme_dtb.specs.Machine.{dtb_begin, dtb_end_fault, dtb_start_marks, dtb_observation, dtb_step}
-use Rattle.vme_dtb.specs.StabilityRules.{stability_begin, stability_end_fault, stability_next}
-use Rattle.vme_dtb.specs.StabilityRules.{stability_start_marks, stability_observation}
-use Rattle.vme_chains.specs.GrantRules.{grant_begin, grant_end_fault, grant_next, grant_start_marks, grant_observation}
-use Rattle.vme_chains.specs.AcknowledgeRules.{acknowledge_begin, acknowledge_end_fault, acknowledge_next}
-use Rattle.vme_chains.specs.AcknowledgeRules.{acknowledge_start_marks, acknowledge_observation}
+use Rattle.vme_monitor.specs.declared.mark.Next.{Next}
+use Rattle.vme_summary.specs.Runs.{acknowledge_at, grant_at, handshake_at, known_at, stability_at}
 use Rattle.vme_summary.specs.Runs.{known_run, handshake_run, stability_run, grant_run, acknowledge_run}
 use Rattle.vme_part_format.specs.Tables.{TableValue}
 use Rattle.vme_part_tables.specs.Runs.{AgreesWithRuns, IsComposition}
@@ -28,45 +22,34 @@ pub record IsRun {P : Type 0} (run : P → Levels → List Step → Outcome P) :
       → run p o (x ++ y) ≡ composed_outcome (length x) (run p o x) (run (run p o x).leaving (levels_after o x) y)
   pub within : (p : P) (o : Levels) (x : List Step) → IsWithin (length x) (run p o x)
 
+-- `IsRun` holds of the runs of a machine
+IsRun-run_of : {P : Type 0} (next : P → Levels → Levels → List Change → Next P) → IsRun (run_of next)
+IsRun-run_of next = record { joined = λ p o x y. run_joined next x y p o; within = λ p o x. run_within next x p o }
+
 -- `IsRun` holds of the runs of the monitor of U1
 pub IsRun-known : IsRun known_run
 unfolding known_run
-IsRun-known =
-    let next = machine_step (observed known_observation)
-    (phase_step known_begin known_start_marks known_reset_marks known_end_fault known_next) in
-    record { joined = λ p o x y. run_joined next x y p o; within = λ p o x. run_within next x p o }
+IsRun-known = IsRun-run_of known_at
 
 -- `IsRun` holds of the runs of the monitor of the handshake
 pub IsRun-handshake : IsRun handshake_run
 unfolding handshake_run
-IsRun-handshake =
-    let next = machine_step (observed dtb_observation) (phase_step dtb_begin dtb_start_marks no_step_marks dtb_end_fault
-    dtb_step) in
-    record { joined = λ p o x y. run_joined next x y p o; within = λ p o x. run_within next x p o }
+IsRun-handshake = IsRun-run_of handshake_at
 
 -- `IsRun` holds of the runs of the monitor of the lines that have to be stable
 pub IsRun-stability : IsRun stability_run
 unfolding stability_run
-IsRun-stability =
-    let next = machine_step (observed stability_observation)
-    (phase_step stability_begin stability_start_marks no_step_marks stability_end_fault stability_next) in
-    record { joined = λ p o x y. run_joined next x y p o; within = λ p o x. run_within next x p o }
+IsRun-stability = IsRun-run_of stability_at
 
 -- `IsRun` holds of the runs of the monitor of the arbitration
 pub IsRun-grant : IsRun grant_run
 unfolding grant_run
-IsRun-grant =
-    let next = machine_step (observed grant_observation)
-    (phase_step grant_begin grant_start_marks no_step_marks grant_end_fault grant_next) in
-    record { joined = λ p o x y. run_joined next x y p o; within = λ p o x. run_within next x p o }
+IsRun-grant = IsRun-run_of grant_at
 
 -- `IsRun` holds of the runs of the monitor of the interrupt acknowledge
 pub IsRun-acknowledge : IsRun acknowledge_run
 unfolding acknowledge_run
-IsRun-acknowledge =
-    let next = machine_step (observed acknowledge_observation)
-    (phase_step acknowledge_begin acknowledge_start_marks no_step_marks acknowledge_end_fault acknowledge_next) in
-    record { joined = λ p o x y. run_joined next x y p o; within = λ p o x. run_within next x p o }
+IsRun-acknowledge = IsRun-run_of acknowledge_at
 
 -- the composition c of the tables a and b agrees with the runs over x and then y, if a agrees with those over x, and b
 -- with those over y from the levels after x

@@ -1,14 +1,5 @@
 -- Each table is that of the steps of both summaries.
-use Rattle.vme_monitor.specs.Run.{no_step_marks, machine_step}
-use Rattle.vme_monitor.specs.OverStretches.{observed, phase_step}
-use Rattle.vme_monitor.specs.KnownRules.{known_begin, known_end_fault, known_next, known_start_marks, known_reset_marks}
-use Rattle.vme_monitor.specs.KnownRules.{known_observation}
-use Rattle.vme_dtb.specs.Machine.{dtb_begin, dtb_end_fault, dtb_start_marks, dtb_observation, dtb_step}
-use Rattle.vme_dtb.specs.StabilityRules.{stability_begin, stability_end_fault, stability_next}
-use Rattle.vme_dtb.specs.StabilityRules.{stability_start_marks, stability_observation}
-use Rattle.vme_chains.specs.GrantRules.{grant_begin, grant_end_fault, grant_next, grant_start_marks, grant_observation}
-use Rattle.vme_chains.specs.AcknowledgeRules.{acknowledge_begin, acknowledge_end_fault, acknowledge_next}
-use Rattle.vme_chains.specs.AcknowledgeRules.{acknowledge_start_marks, acknowledge_observation}
+use Rattle.vme_summary.specs.Runs.{acknowledge_at, grant_at, handshake_at, known_at, stability_at}
 use Rattle.vme_summary.specs.Runs.{known_run, handshake_run, stability_run, grant_run, acknowledge_run}
 use Rattle.vme_summary.proofs.Turns.{StandsFor-composed}
 use Rattle.vme_summary.proofs.summary.MonitorSummaries.append_in.Goals as goal
@@ -18,22 +9,14 @@ unfolding known_run handshake_run stability_run grant_run acknowledge_run
 returns-clause-stands c =
     λ o x y p q.
     record {
-      known = StandsFor-composed (machine_step (observed known_observation)
-          (phase_step known_begin known_start_marks known_reset_marks known_end_fault known_next))
-          _ _ _ _ _ _ c.append_in.ensures.outcomes c.append_in.ensures.counted o x y p.known q.known;
-      handshake = StandsFor-composed (machine_step (observed dtb_observation)
-          (phase_step dtb_begin dtb_start_marks no_step_marks dtb_end_fault dtb_step)) _ _ _ _ _
-          _ c.append_in-2.ensures.outcomes c.append_in-2.ensures.counted o x y p.handshake q.handshake;
-      stability = StandsFor-composed (machine_step (observed stability_observation)
-          (phase_step stability_begin stability_start_marks no_step_marks
-          stability_end_fault stability_next)) _ _ _ _ _ _ c.append_in-3.ensures.outcomes c.append_in-3.ensures.counted
-          o x y p.stability q.stability;
-      grant = StandsFor-composed (machine_step (observed grant_observation)
-          (phase_step grant_begin grant_start_marks no_step_marks grant_end_fault grant_next)) _ _
-          _ _ _ _ c.append_in-4.ensures.outcomes c.append_in-4.ensures.counted o x y p.grant q.grant;
-      acknowledge = StandsFor-composed (machine_step (observed acknowledge_observation)
-          (phase_step acknowledge_begin acknowledge_start_marks no_step_marks
-          acknowledge_end_fault acknowledge_next)) _ _ _ _ _ _ c.append_in-5.ensures.outcomes
-          c.append_in-5.ensures.counted o x
-          y p.acknowledge q.acknowledge;
+      known = StandsFor-composed known_at _ _ _ _ _ _ c.append_in.ensures.outcomes c.append_in.ensures.counted o x y
+          p.known q.known;
+      handshake = StandsFor-composed handshake_at _ _ _ _ _ _ c.append_in-2.ensures.outcomes
+          c.append_in-2.ensures.counted o x y p.handshake q.handshake;
+      stability = StandsFor-composed stability_at _ _ _ _ _ _ c.append_in-3.ensures.outcomes
+          c.append_in-3.ensures.counted o x y p.stability q.stability;
+      grant = StandsFor-composed grant_at _ _ _ _ _ _ c.append_in-4.ensures.outcomes c.append_in-4.ensures.counted o x y
+          p.grant q.grant;
+      acknowledge = StandsFor-composed acknowledge_at _ _ _ _ _ _ c.append_in-5.ensures.outcomes
+          c.append_in-5.ensures.counted o x y p.acknowledge q.acknowledge;
     }
