@@ -23,7 +23,7 @@ use Rattle.vme_monitor.specs.Along.{changes_of, memory_from, next_at}
 use Rattle.vme_monitor.specs.Ends.{end_among}
 use Rattle.vme_monitor.specs.KnownRules.{known_begin, known_end_fault, known_next, known_start_marks, known_reset_marks}
 use Rattle.vme_monitor.specs.OverStretches.{has_started, judging, phase_step, opening_phase}
-use Rattle.vme_monitor.specs.Run.{no_step_marks, quiet}
+use Rattle.vme_monitor.specs.Run.{quiet, no_end_fault, no_start_marks, no_step_marks}
 use Rattle.vme_monitor.specs.declared.known.Stateless.{Stateless}
 use Rattle.vme_monitor.specs.declared.mark.Next.{Next}
 use Rattle.vme_monitor.specs.declared.mark.StepMarks.{StepMarks}
@@ -36,10 +36,9 @@ use Rattle.vme_monitor.proofs.Alongside.{nat_lt-zero}
 use Rattle.vme_monitor.proofs.StretchFacts.{IsStretch, stretch_facts}
 use Rattle.vme_monitor.proofs.StretchLists.{AreOver, started_stretches, started_stretches-none, started_stretches-one}
 use Rattle.vme_monitor.proofs.OuterMachine.{IsAtWork, JudgesOn, Loses, Resets, Stands, inner_at, StepCase-at}
-use Rattle.vme_monitor.proofs.OuterMachine.{outer_next}
-use Rattle.vme_monitor.proofs.OuterMachine.{Stands-at}
+use Rattle.vme_monitor.proofs.OuterMachine.{outer_next, Stands-at}
 use Rattle.vme_monitor.proofs.Transitions.{outer-in_stretch, waits}
-use Rattle.vme_dtb.specs.Machine.{dtb_begin, dtb_end_fault, dtb_start_marks, dtb_observation, dtb_step}
+use Rattle.vme_dtb.specs.Machine.{dtb_begin, dtb_observation, dtb_step}
 use Rattle.vme_dtb.specs.declared.memory.HandshakeMemory.{HandshakeMemory}
 use Rattle.vme_dtb.proofs.HandshakeMeaning.{Holds}
 use Rattle.vme_dtb.proofs.HandshakeInstants.{Holds-at}
@@ -136,7 +135,7 @@ events_in-waiting e phase.Ended o v w cs kinds h = absurd (cc)
 
 -- if the phase waits after a step in a stretch, the step has an end
 end-of_waiting : (p : HandshakeMemory) (v w : Levels) (o : Option End) (s : Option (Unit {0}))
-    → waits (judging dtb_begin dtb_start_marks no_step_marks dtb_end_fault dtb_step p v w o s).memory ≡ true
+    → waits (judging dtb_begin no_start_marks no_step_marks no_end_fault dtb_step p v w o s).memory ≡ true
     → (l : End) × (o ≡ Some l)
 end-of_waiting p v w (Some e) s h = (e, refl)
 end-of_waiting p v w None None h = absurd (cc)
@@ -151,7 +150,7 @@ is_over phase.Ended = true
 
 -- if the phase is over after a step in a stretch, the step has an end
 end-of_over : (p : HandshakeMemory) (v w : Levels) (o : Option End) (s : Option (Unit {0}))
-    → is_over (judging dtb_begin dtb_start_marks no_step_marks dtb_end_fault dtb_step p v w o s).memory ≡ true
+    → is_over (judging dtb_begin no_start_marks no_step_marks no_end_fault dtb_step p v w o s).memory ≡ true
     → (l : End) × (o ≡ Some l)
 end-of_over p v w (Some e) s h = (e, refl)
 end-of_over p v w None None h = absurd (cc)
@@ -166,7 +165,7 @@ is_judging phase.Ended = false
 
 -- if the phase is still in a stretch after the step, the step has no end
 no_end-of_judging : (p : HandshakeMemory) (v w : Levels) (o : Option End) (s : Option (Unit {0}))
-    → is_judging (judging dtb_begin dtb_start_marks no_step_marks dtb_end_fault dtb_step p v w o s).memory ≡ true → o
+    → is_judging (judging dtb_begin no_start_marks no_step_marks no_end_fault dtb_step p v w o s).memory ≡ true → o
     ≡ None
 no_end-of_judging p v w (Some end.Reset) s h = absurd (cc)
 no_end-of_judging p v w (Some (end.Lost l)) s h = absurd (cc)
@@ -315,11 +314,11 @@ module _ (t : Trace) (ok : malformed_step t ≡ None) (few : t.opening.slots ≤
 
       -- a step of the handshake monitor in a stretch is one of the phase `InStretch`
       outer_next-judging : (p : HandshakeMemory) → phase_at n ≡ phase.InStretch p
-          → outer_next dtb_begin dtb_start_marks no_step_marks dtb_end_fault dtb_observation dtb_step t few ok n
-          ≡ judging dtb_begin dtb_start_marks no_step_marks dtb_end_fault dtb_step p v w ends
+          → outer_next dtb_begin no_start_marks no_step_marks no_end_fault dtb_observation dtb_step t few ok n
+          ≡ judging dtb_begin no_start_marks no_step_marks no_end_fault dtb_step p v w ends
           (dtb_observation v w (cs_at n))
       outer_next-judging p at =
-          rw at (outer-in_stretch dtb_begin dtb_start_marks no_step_marks dtb_end_fault dtb_observation
+          rw at (outer-in_stretch dtb_begin no_start_marks no_step_marks no_end_fault dtb_observation
           dtb_step
           v w (cs_at n) p)
 
@@ -327,7 +326,7 @@ module _ (t : Trace) (ok : malformed_step t ≡ None) (few : t.opening.slots ≤
       now-ended : (p : HandshakeMemory) (l : End) → phase_at n ≡ phase.InStretch p → ends ≡ Some l → now ≡ before
       now-ended p l at e = rw (at, e) refl
 
-      module _ (work : IsAtWork dtb_begin dtb_start_marks no_step_marks dtb_end_fault dtb_observation dtb_step t few ok
+      module _ (work : IsAtWork dtb_begin no_start_marks no_step_marks no_end_fault dtb_observation dtb_step t few ok
           n) where
         -- the stretch in which instant n is
         abbrev here : Stretch
@@ -335,7 +334,7 @@ module _ (t : Trace) (ok : malformed_step t ≡ None) (few : t.opening.slots ≤
 
         -- the memory of the handshake rules at n
         abbrev p : HandshakeMemory
-        p = inner_at dtb_begin dtb_start_marks no_step_marks dtb_end_fault dtb_observation dtb_step t few ok work.start
+        p = inner_at dtb_begin no_start_marks no_step_marks no_end_fault dtb_observation dtb_step t few ok work.start
             n
 
         -- the event has happened in a started stretch exactly if in one of those that are over, or in the one in which
@@ -363,7 +362,7 @@ module _ (t : Trace) (ok : malformed_step t ≡ None) (few : t.opening.slots ≤
           ends = refl;
         }
 
-        module _ (on : JudgesOn dtb_begin dtb_start_marks no_step_marks dtb_end_fault dtb_observation dtb_step t few ok
+        module _ (on : JudgesOn dtb_begin no_start_marks no_step_marks no_end_fault dtb_observation dtb_step t few ok
             n work) where
           -- nothing ends the stretch at the step
           ends-none : ends ≡ None
@@ -409,7 +408,7 @@ module _ (t : Trace) (ok : malformed_step t ≡ None) (few : t.opening.slots ≤
               ∙ sym (list_any-past_and_here (suc n)) ∙ sym (list_any-new_stretch (suc n) n (omega arith)))
 
         -- `HaveHappened` holds at n + 1 if the bus is reset there
-        HaveHappened-reset : Resets dtb_begin dtb_start_marks no_step_marks dtb_end_fault dtb_observation dtb_step t few
+        HaveHappened-reset : Resets dtb_begin no_start_marks no_step_marks no_end_fault dtb_observation dtb_step t few
             ok n work
             → HaveHappened e (suc n)
         HaveHappened-reset reset =
@@ -419,7 +418,7 @@ module _ (t : Trace) (ok : malformed_step t ≡ None) (few : t.opening.slots ≤
             HaveHappened-ended end.0 end.1 (omega (arith, reset.last))
 
         -- `HaveHappened` holds at n + 1 if a control line is lost there
-        HaveHappened-lost : Loses dtb_begin dtb_start_marks no_step_marks dtb_end_fault dtb_observation dtb_step t few
+        HaveHappened-lost : Loses dtb_begin no_start_marks no_step_marks no_end_fault dtb_observation dtb_step t few
             ok n work
             → HaveHappened e (suc n)
         HaveHappened-lost loses =
@@ -430,7 +429,7 @@ module _ (t : Trace) (ok : malformed_step t ≡ None) (few : t.opening.slots ≤
 
       -- `HaveHappened` holds at n + 1 if n is in no judged stretch
       HaveHappened-unjudged : AreOver n (started_stretches t n)
-          → Stands dtb_begin dtb_start_marks no_step_marks dtb_end_fault dtb_observation dtb_step t few ok n
+          → Stands dtb_begin no_start_marks no_step_marks no_end_fault dtb_observation dtb_step t few ok n
           → HaveHappened e (suc n)
       HaveHappened-unjudged over (inl rest) =
           unjudged (events_in-waiting before (phase_at n) ends v w (cs_at n) kinds rest.waiting)
@@ -444,15 +443,15 @@ module _ (t : Trace) (ok : malformed_step t ≡ None) (few : t.opening.slots ≤
       -- `HaveHappened` holds at n + 1
       HaveHappened-next : HaveHappened e (suc n)
       HaveHappened-next =
-          elim (StepCase-at dtb_begin dtb_start_marks no_step_marks dtb_end_fault dtb_observation dtb_step t few ok n
+          elim (StepCase-at dtb_begin no_start_marks no_step_marks no_end_fault dtb_observation dtb_step t few ok n
           within) [
             | inl stays ↦ HaveHappened-unjudged stays.over
-                (Stands-at dtb_begin dtb_start_marks no_step_marks dtb_end_fault dtb_observation dtb_step t few ok n
+                (Stands-at dtb_begin no_start_marks no_step_marks no_end_fault dtb_observation dtb_step t few ok n
                 (omega arith))
             | inr moving ↦
                 elim moving [
                   | inl starts ↦ HaveHappened-unjudged starts.over
-                      (Stands-at dtb_begin dtb_start_marks no_step_marks dtb_end_fault dtb_observation dtb_step t few ok
+                      (Stands-at dtb_begin no_start_marks no_step_marks no_end_fault dtb_observation dtb_step t few ok
                       n
                       (omega arith))
                   | inr works ↦

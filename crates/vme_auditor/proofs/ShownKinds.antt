@@ -11,7 +11,7 @@ use Rattle.vme_monitor.specs.BothMonitors.{kind_number}
 use Rattle.vme_monitor.specs.Ends.{end_among}
 use Rattle.vme_monitor.specs.OverStretches.{judging, observed, phase_step}
 use Rattle.vme_monitor.specs.Run.{answer_kind, answered_kind, cycle_kind, kinds_of, machine_step, no_step_marks, quiet}
-use Rattle.vme_monitor.specs.Run.{when}
+use Rattle.vme_monitor.specs.Run.{when, no_end_fault, no_start_marks}
 use Rattle.vme_monitor.specs.KnownRules.{known_begin, known_end_fault, known_next, known_start_marks, known_reset_marks}
 use Rattle.vme_monitor.specs.KnownRules.{known_observation}
 use Rattle.vme_monitor.specs.declared.mark.BusGrant.{BusGrant}
@@ -27,12 +27,10 @@ use Rattle.vme_monitor.specs.declared.over_stretches.StretchPhase.{StretchPhase}
 use Rattle.vme_monitor.specs.declared.over_stretches.StretchPhase.TheVariants as phase
 use Rattle.vme_monitor.specs.declared.view.End.{End}
 use Rattle.vme_monitor.specs.declared.view.End.TheVariants as end
-use Rattle.vme_dtb.specs.Machine.{dtb_begin, dtb_end_fault, dtb_start_marks, dtb_observation, dtb_step}
-use Rattle.vme_dtb.specs.StabilityRules.{stability_begin, stability_end_fault, stability_next}
-use Rattle.vme_dtb.specs.StabilityRules.{stability_start_marks, stability_observation}
-use Rattle.vme_chains.specs.GrantRules.{grant_begin, grant_end_fault, grant_next, grant_start_marks, grant_observation}
-use Rattle.vme_chains.specs.AcknowledgeRules.{acknowledge_begin, acknowledge_end_fault, acknowledge_next}
-use Rattle.vme_chains.specs.AcknowledgeRules.{acknowledge_start_marks, acknowledge_observation}
+use Rattle.vme_dtb.specs.Machine.{dtb_begin, dtb_observation, dtb_step}
+use Rattle.vme_dtb.specs.StabilityRules.{stability_begin, stability_next, stability_observation}
+use Rattle.vme_chains.specs.GrantRules.{grant_begin, grant_next, grant_start_marks, grant_observation}
+use Rattle.vme_chains.specs.AcknowledgeRules.{acknowledge_begin, acknowledge_next, acknowledge_observation}
 use Rattle.vme_summary.specs.Runs.{acknowledge_at, grant_at, handshake_at, known_at, stability_at}
 use Rattle.vme_auditor.specs.declared.memories.Memories.{Memories}
 
@@ -120,29 +118,27 @@ module _ (m : Memories) (v w : Levels) (cs : List Change) where
   -- the grant monitor shows only marks of the tenure
   pub OfTenure-grant : OfTenure (grant_at m.grant v w cs).shown
   OfTenure-grant =
-      AreItsKinds-machine_step grant_begin grant_start_marks no_step_marks grant_end_fault grant_next OfTenure refl
+      AreItsKinds-machine_step grant_begin grant_start_marks no_step_marks no_end_fault grant_next OfTenure refl
       (λ v. refl) refl
       (λ p v w s. refl) grant_observation v w cs m.grant
 
   -- the handshake monitor shows only marks of the cycle and the transfer
   pub OfTransfer-handshake : OfTransfer (handshake_at m.handshake v w cs).shown
   OfTransfer-handshake =
-      AreItsKinds-machine_step dtb_begin dtb_start_marks no_step_marks dtb_end_fault dtb_step OfTransfer refl
+      AreItsKinds-machine_step dtb_begin no_start_marks no_step_marks no_end_fault dtb_step OfTransfer refl
       (λ v. refl) refl
       (λ p v w s. refl) dtb_observation v w cs m.handshake
 
   -- the stability monitor shows nothing
   pub IsNothing-stability : IsNothing (stability_at m.stability v w cs).shown
   IsNothing-stability =
-      AreItsKinds-machine_step stability_begin stability_start_marks no_step_marks stability_end_fault stability_next
-      IsNothing refl
+      AreItsKinds-machine_step stability_begin no_start_marks no_step_marks no_end_fault stability_next IsNothing refl
       (λ v. refl) refl (λ p v w s. refl) stability_observation v w cs m.stability
 
   -- the acknowledge monitor shows nothing
   pub IsNothing-acknowledge : IsNothing (acknowledge_at m.acknowledge v w cs).shown
   IsNothing-acknowledge =
-      AreItsKinds-machine_step acknowledge_begin acknowledge_start_marks no_step_marks acknowledge_end_fault
-      acknowledge_next IsNothing
+      AreItsKinds-machine_step acknowledge_begin no_start_marks no_step_marks no_end_fault acknowledge_next IsNothing
       refl (λ v. refl) refl (λ p v w s. refl) acknowledge_observation v w cs m.acknowledge
 
 -- all kinds have numbers below `n`

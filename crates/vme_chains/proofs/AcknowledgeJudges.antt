@@ -15,15 +15,14 @@ use Rattle.vme_trace.specs.declared.rule.Rule.TheVariants.{I1, I2, I3}
 use Rattle.vme_trace.specs.declared.step.Change.{Change}
 use Rattle.vme_trace.proofs.StretchEnds.{slots_at}
 use Rattle.vme_monitor.specs.Along.{changes_of, next_at, memory_from}
-use Rattle.vme_monitor.specs.Run.{break_of_fault, machine_step, no_step_marks, run_of}
+use Rattle.vme_monitor.specs.Run.{break_of_fault, machine_step, run_of, no_end_fault, no_start_marks, no_step_marks}
 use Rattle.vme_monitor.specs.OverStretches.{observed, phase_step, opening_phase}
 use Rattle.vme_monitor.specs.Whole.{FindsLeast, ShowsAll}
 use Rattle.vme_monitor.specs.declared.mark.Next.{Next}
 use Rattle.vme_monitor.proofs.InsideRules.{FindsLeast-inside, ShowsAll-inside}
 use Rattle.vme_monitor.proofs.StretchFacts.{IsStretch}
 use Rattle.vme_monitor.proofs.Alongside.{levels_at-step, are_changes-step, memory_from-before}
-use Rattle.vme_chains.specs.AcknowledgeRules.{acknowledge_begin, acknowledge_end_fault, acknowledge_next}
-use Rattle.vme_chains.specs.AcknowledgeRules.{acknowledge_start_marks, acknowledge_rules, acknowledge_shown}
+use Rattle.vme_chains.specs.AcknowledgeRules.{acknowledge_begin, acknowledge_next, acknowledge_rules, acknowledge_shown}
 use Rattle.vme_chains.specs.AcknowledgeRules.{acknowledge_observation, fault_among, fault_on, changes_memory}
 use Rattle.vme_chains.specs.AcknowledgeRules.{first_changed, memory_after, passes_on, passes_unasked, is_strobed}
 use Rattle.vme_chains.specs.AcknowledgeRules.{is_addressed}
@@ -198,10 +197,10 @@ module _ (t : Trace) (stretch : Stretch) (ok : malformed_step t ≡ None) (few :
 
 -- the machine finds the least break of its rules in each recording
 pub acknowledge_first_break : FindsLeast
-    (run_of (machine_step (observed acknowledge_observation) (phase_step acknowledge_begin acknowledge_start_marks
-    no_step_marks (λ l. None)
-    acknowledge_next))) (opening_phase acknowledge_begin) acknowledge_rules
-acknowledge_first_break = FindsLeast-inside acknowledge_begin acknowledge_start_marks acknowledge_observation
+    (run_of (machine_step (observed acknowledge_observation)
+    (phase_step acknowledge_begin no_start_marks no_step_marks (λ l. None) acknowledge_next)))
+    (opening_phase acknowledge_begin) acknowledge_rules
+acknowledge_first_break = FindsLeast-inside acknowledge_begin no_start_marks acknowledge_observation
     acknowledge_next acknowledge_rules
     refl (λ t stretch ok few facts n from before within unbroken. acknowledge_inside t stretch ok few facts n from
     before
@@ -210,11 +209,11 @@ acknowledge_first_break = FindsLeast-inside acknowledge_begin acknowledge_start_
 -- the machine shows no marks
 pub acknowledge_marks : ShowsAll
     (run_of (machine_step (observed acknowledge_observation)
-    (phase_step acknowledge_begin acknowledge_start_marks no_step_marks acknowledge_end_fault
-    acknowledge_next))) (opening_phase acknowledge_begin) no_step_marks acknowledge_shown
+    (phase_step acknowledge_begin no_start_marks no_step_marks no_end_fault acknowledge_next)))
+    (opening_phase acknowledge_begin) no_step_marks acknowledge_shown
 acknowledge_marks =
-    ShowsAll-inside acknowledge_begin acknowledge_start_marks acknowledge_observation acknowledge_next
-    acknowledge_end_fault acknowledge_shown
+    ShowsAll-inside acknowledge_begin no_start_marks acknowledge_observation acknowledge_next no_end_fault
+    acknowledge_shown
     (λ t stretch ok few facts. record {
       at_start = refl;
       inside = λ n from before within. by_observation (acknowledge_observation (levels_at t n) (levels_at t (suc n))

@@ -16,7 +16,7 @@ use Rattle.vme_trace.specs.Verdict.{break_at}
 use Rattle.vme_trace.specs.declared.step.Change.{Change}
 use Rattle.vme_trace.proofs.OpenTransfers.{is_judged-holds}
 use Rattle.vme_monitor.specs.Along.{changes_of, next_at, memory_from}
-use Rattle.vme_monitor.specs.Run.{break_of_fault, machine_step, run_of, no_step_marks, quiet}
+use Rattle.vme_monitor.specs.Run.{break_of_fault, machine_step, run_of, quiet, no_end_fault, no_step_marks}
 use Rattle.vme_monitor.specs.OverStretches.{observed, phase_step, opening_phase}
 use Rattle.vme_monitor.specs.Whole.{FindsLeast, ShowsAll}
 use Rattle.vme_monitor.specs.declared.mark.BusGrant.{BusGrant}
@@ -26,7 +26,7 @@ use Rattle.vme_chains.specs.GrantLevels.{falls_between, rises_between, is_low_in
 use Rattle.vme_chains.specs.GrantLevels.{taken_between, touches_arbitration, is_cycle_unowned, is_ungranted}
 use Rattle.vme_chains.specs.GrantMemory.{is_in, union}
 use Rattle.vme_chains.specs.GrantRules.{grant_rules, nets_fault, seen_between, grant_begin, grant_start_marks}
-use Rattle.vme_chains.specs.GrantRules.{grant_end_fault, grant_observation, grant_next}
+use Rattle.vme_chains.specs.GrantRules.{grant_observation, grant_next}
 use Rattle.vme_chains.specs.GrantMarks.{tenure_at, tenures_shown}
 use Rattle.vme_chains.specs.declared.grant.GrantObservation.{GrantObservation}
 use Rattle.vme_chains.specs.declared.grant_memory.Arbitration.{Arbitration}
@@ -303,10 +303,10 @@ grant_first_break = FindsLeast-inside grant_begin grant_start_marks grant_observ
 -- over every recording the grant monitor shows the tenures
 pub grant_marks : ShowsAll
     (run_of (machine_step (observed grant_observation)
-    (phase_step grant_begin grant_start_marks no_step_marks grant_end_fault grant_next)))
+    (phase_step grant_begin grant_start_marks no_step_marks no_end_fault grant_next)))
     (opening_phase grant_begin) no_step_marks tenures_shown
 grant_marks =
-    ShowsAll-inside grant_begin grant_start_marks grant_observation grant_next grant_end_fault tenures_shown
+    ShowsAll-inside grant_begin grant_start_marks grant_observation grant_next no_end_fault tenures_shown
     (λ t stretch ok few facts. record {
       at_start = grant_start_marks-shown t stretch few;
       inside = λ n from before within. shown-inside t stretch few ok n from before within;

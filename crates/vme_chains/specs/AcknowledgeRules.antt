@@ -111,14 +111,6 @@ fault_among m v w None first = fault_of_first m v w first
 abbrev pub acknowledge_begin : Levels → AcknowledgeMemory
 acknowledge_begin v = record { transfer = Closed; answered_by_dtack = false }
 
--- what is shown where a stretch starts: nothing
-abbrev pub acknowledge_start_marks : Levels → StepMarks
-acknowledge_start_marks v = no_step_marks
-
--- what is broken where a control line is lost: nothing
-abbrev pub acknowledge_end_fault : ℕ → Option Fault
-acknowledge_end_fault l = None
-
 -- the slots that pass an acknowledge on, if there are any or the memory may change
 abbrev pub acknowledge_observation : Levels → Levels → List Change → Option PassingSlots
 acknowledge_observation v w cs =

@@ -83,10 +83,6 @@ grant_begin v = record { requests = requested_in v; granted = false }
 abbrev pub grant_start_marks : Levels → StepMarks
 grant_start_marks v = record no_step_marks { opened = is_low_in v BBSY }
 
--- what is broken where a control line is lost: nothing
-abbrev pub grant_end_fault : ℕ → Option Fault
-grant_end_fault l = None
-
 -- what the step shows, if a line of the arbitration bus changes or a cycle starts while the bus isn't busy
 abbrev pub grant_observation : Levels → Levels → List Change → Option GrantObservation
 grant_observation v w cs = if touches_arbitration cs || is_cycle_unowned v w then Some (seen_between v w cs) else None

@@ -295,9 +295,8 @@ fn fault_of(
 pub struct AcknowledgeRules;
 
 impl Rules for AcknowledgeRules {
-    ghost use Rattle.vme_monitor.specs.Run.{no_step_marks};
-    ghost use Rattle.vme_chains.specs.AcknowledgeRules.{acknowledge_begin, acknowledge_end_fault, acknowledge_next};
-    ghost use Rattle.vme_chains.specs.AcknowledgeRules.{acknowledge_start_marks, acknowledge_observation};
+    ghost use Rattle.vme_monitor.specs.Run.{no_end_fault, no_start_marks, no_step_marks};
+    ghost use Rattle.vme_chains.specs.AcknowledgeRules.{acknowledge_begin, acknowledge_next, acknowledge_observation};
 
     type Memory = AcknowledgeMemory;
 
@@ -305,11 +304,11 @@ impl Rules for AcknowledgeRules {
 
     ghost begin = { acknowledge_begin };
 
-    ghost start_marks = { acknowledge_start_marks };
+    ghost start_marks = { no_start_marks };
 
     ghost reset_marks = { no_step_marks };
 
-    ghost end_fault = { acknowledge_end_fault };
+    ghost end_fault = { no_end_fault };
 
     ghost observation = { acknowledge_observation };
 

@@ -154,9 +154,8 @@ impl GrantObservation {
 pub struct GrantRules;
 
 impl Rules for GrantRules {
-    ghost use Rattle.vme_monitor.specs.Run.{no_step_marks};
-    ghost use Rattle.vme_chains.specs.GrantRules.{grant_begin, grant_end_fault, grant_next, grant_start_marks};
-    ghost use Rattle.vme_chains.specs.GrantRules.{grant_observation};
+    ghost use Rattle.vme_monitor.specs.Run.{no_end_fault, no_step_marks};
+    ghost use Rattle.vme_chains.specs.GrantRules.{grant_begin, grant_next, grant_observation, grant_start_marks};
 
     type Memory = Arbitration;
 
@@ -168,7 +167,7 @@ impl Rules for GrantRules {
 
     ghost reset_marks = { no_step_marks };
 
-    ghost end_fault = { grant_end_fault };
+    ghost end_fault = { no_end_fault };
 
     ghost observation = { grant_observation };
 

@@ -21,7 +21,7 @@ use Rattle.vme_trace.specs.declared.data.Lanes.{Lanes}
 use Rattle.vme_trace.proofs.OpenTransfers.{suc-sub-one}
 use Rattle.vme_trace.proofs.Ranges.{fails-any}
 use Rattle.vme_monitor.specs.Along.{changes_of, next_at}
-use Rattle.vme_monitor.specs.Run.{break_of_fault, machine_step, no_step_marks, run_of}
+use Rattle.vme_monitor.specs.Run.{break_of_fault, machine_step, run_of, no_end_fault, no_start_marks, no_step_marks}
 use Rattle.vme_monitor.specs.OverStretches.{observed, phase_step, opening_phase}
 use Rattle.vme_monitor.specs.Tracked.{IsTransferPhase}
 use Rattle.vme_monitor.specs.Tracking.{entered, is_unanswered, is_within, is_writing}
@@ -35,9 +35,8 @@ use Rattle.vme_monitor.proofs.LeastLines.{least_answer}
 use Rattle.vme_monitor.proofs.InsideRules.{FindsLeast-inside, ShowsAll-inside}
 use Rattle.vme_monitor.proofs.StretchFacts.{IsStretch}
 use Rattle.vme_dtb.specs.Edge.{cycle_start_of, edges_between}
-use Rattle.vme_dtb.specs.Machine.{answer_in, answered_in, cycle_faults, cycle_rules, dtb_begin, dtb_end_fault, dtb_next}
-use Rattle.vme_dtb.specs.Machine.{dtb_start_marks, dtb_observation, dtb_step, fault_in, handshake_rules, strobe_faults}
-use Rattle.vme_dtb.specs.Machine.{strobe_rules}
+use Rattle.vme_dtb.specs.Machine.{answer_in, answered_in, cycle_faults, cycle_rules, dtb_begin, dtb_next}
+use Rattle.vme_dtb.specs.Machine.{dtb_observation, dtb_step, fault_in, handshake_rules, strobe_faults, strobe_rules}
 use Rattle.vme_dtb.specs.declared.cycle.CyclePhase.{CyclePhase}
 use Rattle.vme_dtb.specs.CycleState.{cycle_entered}
 use Rattle.vme_dtb.specs.Shown.{answer_line, answered, closes, handshake_shown}
@@ -223,20 +222,20 @@ module _ (t : Trace) (stretch : Stretch) where
 
 -- the machine of the handshake finds the least break of its rules
 pub dtb_first_break : FindsLeast
-    (run_of (machine_step (observed dtb_observation) (phase_step dtb_begin dtb_start_marks no_step_marks (λ l. None)
+    (run_of (machine_step (observed dtb_observation) (phase_step dtb_begin no_start_marks no_step_marks (λ l. None)
     dtb_step))) (opening_phase dtb_begin)
     handshake_rules
 dtb_first_break =
-    FindsLeast-inside dtb_begin dtb_start_marks dtb_observation dtb_step handshake_rules refl
+    FindsLeast-inside dtb_begin no_start_marks dtb_observation dtb_step handshake_rules refl
     (λ t stretch ok few facts n from before within unbroken. dtb_inside t stretch facts n from before
     (memory_at t stretch facts n) (Holds-at t stretch facts n from (omega (arith, before))))
 
 -- the machine of the handshake shows the cycles and transfers of a recording
 pub dtb_marks : ShowsAll
-    (run_of (machine_step (observed dtb_observation) (phase_step dtb_begin dtb_start_marks no_step_marks dtb_end_fault
+    (run_of (machine_step (observed dtb_observation) (phase_step dtb_begin no_start_marks no_step_marks no_end_fault
     dtb_step))) (opening_phase dtb_begin) no_step_marks handshake_shown
 dtb_marks =
-    ShowsAll-inside dtb_begin dtb_start_marks dtb_observation dtb_step dtb_end_fault handshake_shown
+    ShowsAll-inside dtb_begin no_start_marks dtb_observation dtb_step no_end_fault handshake_shown
     (λ t stretch ok few facts. record {
       at_start = handshake_shown-start t stretch;
       inside = λ n from before within. dtb_kinds t stretch facts n from before (memory_at t stretch facts n)

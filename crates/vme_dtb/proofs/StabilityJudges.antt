@@ -18,6 +18,7 @@ use Rattle.vme_trace.specs.declared.step.Change.{Change}
 use Rattle.vme_trace.proofs.Ranges.{any-fails}
 use Rattle.vme_monitor.specs.Along.{changes_of, memory_from, next_at}
 use Rattle.vme_monitor.specs.Run.{break_of_fault, no_step_marks, machine_step, quiet, run_of}
+use Rattle.vme_monitor.specs.Run.{no_end_fault, no_start_marks}
 use Rattle.vme_monitor.specs.OverStretches.{observed, phase_step, opening_phase}
 use Rattle.vme_monitor.specs.Whole.{FindsLeast, ShowsAll}
 use Rattle.vme_monitor.specs.declared.mark.Next.{Next}
@@ -26,8 +27,7 @@ use Rattle.vme_monitor.proofs.StretchFacts.{IsStretch}
 use Rattle.vme_monitor.proofs.Alongside.{are_changes-step, levels_at-step, memory_from-before}
 use Rattle.vme_dtb.specs.StabilityRules.{fault_on, is_observed, changed_data_fault, undriven_fault, keeps_direction}
 use Rattle.vme_dtb.specs.StabilityRules.{direction_turned, changed_need_fault, observation_of, stability_begin}
-use Rattle.vme_dtb.specs.StabilityRules.{stability_end_fault}
-use Rattle.vme_dtb.specs.StabilityRules.{stability_next, stability_start_marks, stability_rules, stability_shown}
+use Rattle.vme_dtb.specs.StabilityRules.{stability_next, stability_rules, stability_shown}
 use Rattle.vme_dtb.specs.StabilityRules.{stability_observation, turned_fault, unknown_address, unknown_direction}
 use Rattle.vme_dtb.specs.declared.holding.Holding.{Holding}
 use Rattle.vme_dtb.specs.declared.observation.HoldingObservation.{HoldingObservation}
@@ -210,10 +210,9 @@ module _ (t : Trace) (stretch : Stretch) (ok : malformed_step t ≡ None) (facts
 -- the machine of stability finds the least break of its rules
 pub stability_first_break : FindsLeast
     (run_of (machine_step (observed stability_observation)
-    (phase_step stability_begin stability_start_marks no_step_marks
-    (λ l. None)
-    stability_next))) (opening_phase stability_begin) stability_rules
-stability_first_break = FindsLeast-inside stability_begin stability_start_marks stability_observation stability_next
+    (phase_step stability_begin no_start_marks no_step_marks (λ l. None) stability_next)))
+    (opening_phase stability_begin) stability_rules
+stability_first_break = FindsLeast-inside stability_begin no_start_marks stability_observation stability_next
     stability_rules refl
     (λ t stretch ok few facts n from before within unbroken. break_at-inside t stretch ok facts n from before within
     unbroken)
@@ -221,10 +220,10 @@ stability_first_break = FindsLeast-inside stability_begin stability_start_marks 
 -- the machine of stability shows nothing
 pub stability_marks : ShowsAll
     (run_of (machine_step (observed stability_observation)
-    (phase_step stability_begin stability_start_marks no_step_marks stability_end_fault
-    stability_next))) (opening_phase stability_begin) no_step_marks stability_shown
+    (phase_step stability_begin no_start_marks no_step_marks no_end_fault stability_next)))
+    (opening_phase stability_begin) no_step_marks stability_shown
 stability_marks =
-    ShowsAll-inside stability_begin stability_start_marks stability_observation stability_next stability_end_fault
+    ShowsAll-inside stability_begin no_start_marks stability_observation stability_next no_end_fault
     stability_shown (λ t stretch ok few facts. record {
       at_start = refl;
       inside = λ n from before within. by_observation (stability_observation (levels_at t n) (levels_at t (suc n))

@@ -10,11 +10,9 @@ use Rattle.vme_trace.specs.declared.data.Lanes.{Lanes}
 use Rattle.vme_trace.specs.declared.rule.Rule.{Rule}
 use Rattle.vme_trace.specs.declared.rule.Rule.TheVariants.{H1, H2, H3, H4, H5, H6, H7, H8, C1, C2, I4, I5}
 use Rattle.vme_trace.specs.declared.step.Change.{Change}
-use Rattle.vme_monitor.specs.Run.{no_step_marks}
 use Rattle.vme_monitor.specs.Tracking.{entered, is_unanswered, is_within, is_writing, tracked}
 use Rattle.vme_monitor.specs.declared.mark.TransferAnswer.{TransferAnswer as Answer}
 use Rattle.vme_monitor.specs.declared.mark.Fault.{Fault}
-use Rattle.vme_monitor.specs.declared.mark.StepMarks.{StepMarks}
 use Rattle.vme_monitor.specs.declared.mark.Next.{Next}
 use Rattle.vme_monitor.specs.declared.tracking.TransferPhase.{TransferPhase}
 use Rattle.vme_monitor.specs.declared.tracking.TransferPhase.TheVariants.{Closed, Answered}
@@ -138,14 +136,6 @@ fault_in m v w s =
 -- the memory at the start of a stretch
 abbrev pub dtb_begin : Levels → HandshakeMemory
 dtb_begin v = record { transfer = Closed; cycle = Free; dtack_may_rise = false; berr_may_rise = false }
-
--- what is shown where a stretch starts: nothing
-abbrev pub dtb_start_marks : Levels → StepMarks
-dtb_start_marks v = no_step_marks
-
--- what is broken where a control line is lost: nothing
-abbrev pub dtb_end_fault : ℕ → Option Fault
-dtb_end_fault l = None
 
 -- there is an observation where AS*, a strobe or an answer line moves
 abbrev pub dtb_observation : Levels → Levels → List Change → Option (Unit {0})

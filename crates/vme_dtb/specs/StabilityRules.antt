@@ -197,14 +197,6 @@ fault_in m v w seen =
 abbrev pub stability_begin : Levels → Holding
 stability_begin v = record { transfer = Fresh; cycle_answered = false }
 
--- what is shown where a stretch starts: nothing
-abbrev pub stability_start_marks : Levels → StepMarks
-stability_start_marks v = no_step_marks
-
--- what is broken where a control line is lost: nothing
-abbrev pub stability_end_fault : ℕ → Option Fault
-stability_end_fault l = None
-
 -- the result of an observed step
 abbrev pub stability_next : Holding → Levels → Levels → HoldingObservation → Next Holding
 stability_next m v w seen = record { memory = stepped m v w; fault = fault_in m v w seen; shown = no_step_marks }

@@ -384,8 +384,8 @@ impl HandshakeMemory {
 }
 
 impl Rules for HandshakeRules {
-    ghost use Rattle.vme_monitor.specs.Run.{no_step_marks};
-    ghost use Rattle.vme_dtb.specs.Machine.{dtb_begin, dtb_end_fault, dtb_start_marks, dtb_observation, dtb_step};
+    ghost use Rattle.vme_monitor.specs.Run.{no_end_fault, no_start_marks, no_step_marks};
+    ghost use Rattle.vme_dtb.specs.Machine.{dtb_begin, dtb_observation, dtb_step};
 
     type Memory = HandshakeMemory;
 
@@ -394,11 +394,11 @@ impl Rules for HandshakeRules {
 
     ghost begin = { dtb_begin };
 
-    ghost start_marks = { dtb_start_marks };
+    ghost start_marks = { no_start_marks };
 
     ghost reset_marks = { no_step_marks };
 
-    ghost end_fault = { dtb_end_fault };
+    ghost end_fault = { no_end_fault };
 
     ghost observation = { dtb_observation };
 

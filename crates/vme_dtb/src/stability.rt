@@ -199,9 +199,8 @@ impl Holding {
 }
 
 impl Rules for StabilityRules {
-    ghost use Rattle.vme_monitor.specs.Run.{no_step_marks};
-    ghost use Rattle.vme_dtb.specs.StabilityRules.{stability_begin, stability_end_fault, stability_next};
-    ghost use Rattle.vme_dtb.specs.StabilityRules.{stability_start_marks, stability_observation};
+    ghost use Rattle.vme_monitor.specs.Run.{no_end_fault, no_start_marks, no_step_marks};
+    ghost use Rattle.vme_dtb.specs.StabilityRules.{stability_begin, stability_next, stability_observation};
 
     type Memory = Holding;
 
@@ -209,11 +208,11 @@ impl Rules for StabilityRules {
 
     ghost begin = { stability_begin };
 
-    ghost start_marks = { stability_start_marks };
+    ghost start_marks = { no_start_marks };
 
     ghost reset_marks = { no_step_marks };
 
-    ghost end_fault = { stability_end_fault };
+    ghost end_fault = { no_end_fault };
 
     ghost observation = { stability_observation };
 

@@ -5,22 +5,20 @@ use Rattle.vme_trace.specs.Levels.{Levels}
 use Rattle.vme_trace.specs.declared.step.Change.{Change}
 use Rattle.vme_trace.specs.declared.step.Step.{Step}
 use Rattle.vme_monitor.specs.Outcome.{Outcome}
-use Rattle.vme_monitor.specs.Run.{no_step_marks, machine_step, run_of}
+use Rattle.vme_monitor.specs.Run.{machine_step, run_of, no_end_fault, no_start_marks, no_step_marks}
 use Rattle.vme_monitor.specs.OverStretches.{observed, phase_step}
 use Rattle.vme_monitor.specs.KnownRules.{known_begin, known_end_fault, known_next, known_start_marks, known_reset_marks}
 use Rattle.vme_monitor.specs.KnownRules.{known_observation}
 use Rattle.vme_monitor.specs.declared.known.Stateless.{Stateless}
 use Rattle.vme_monitor.specs.declared.mark.Next.{Next}
 use Rattle.vme_monitor.specs.declared.over_stretches.StretchPhase.{StretchPhase}
-use Rattle.vme_dtb.specs.Machine.{dtb_begin, dtb_end_fault, dtb_start_marks, dtb_observation, dtb_step}
+use Rattle.vme_dtb.specs.Machine.{dtb_begin, dtb_observation, dtb_step}
 use Rattle.vme_dtb.specs.declared.memory.HandshakeMemory.{HandshakeMemory}
-use Rattle.vme_dtb.specs.StabilityRules.{stability_begin, stability_end_fault, stability_next}
-use Rattle.vme_dtb.specs.StabilityRules.{stability_start_marks, stability_observation}
+use Rattle.vme_dtb.specs.StabilityRules.{stability_begin, stability_next, stability_observation}
 use Rattle.vme_dtb.specs.declared.holding.Holding.{Holding}
-use Rattle.vme_chains.specs.GrantRules.{grant_begin, grant_end_fault, grant_next, grant_start_marks, grant_observation}
+use Rattle.vme_chains.specs.GrantRules.{grant_begin, grant_next, grant_start_marks, grant_observation}
 use Rattle.vme_chains.specs.declared.grant_memory.Arbitration.{Arbitration}
-use Rattle.vme_chains.specs.AcknowledgeRules.{acknowledge_begin, acknowledge_end_fault, acknowledge_next}
-use Rattle.vme_chains.specs.AcknowledgeRules.{acknowledge_start_marks, acknowledge_observation}
+use Rattle.vme_chains.specs.AcknowledgeRules.{acknowledge_begin, acknowledge_next, acknowledge_observation}
 use Rattle.vme_chains.specs.declared.acknowledge.AcknowledgeMemory.{AcknowledgeMemory}
 
 -- what the monitor of stretches does at a step: the memory that it enters, the rule that it finds broken, and what it
@@ -32,26 +30,24 @@ known_at = machine_step (observed known_observation)
 -- the same of the monitor of the handshake
 abbrev pub handshake_at : StretchPhase HandshakeMemory → Levels → Levels → List Change
     → Next (StretchPhase HandshakeMemory)
-handshake_at = machine_step (observed dtb_observation) (phase_step dtb_begin dtb_start_marks no_step_marks dtb_end_fault
-    dtb_step)
+handshake_at = machine_step (observed dtb_observation)
+    (phase_step dtb_begin no_start_marks no_step_marks no_end_fault dtb_step)
 
 -- the same of the monitor of held lines
 abbrev pub stability_at : StretchPhase Holding → Levels → Levels → List Change → Next (StretchPhase Holding)
-stability_at =
-    machine_step (observed stability_observation)
-    (phase_step stability_begin stability_start_marks no_step_marks stability_end_fault stability_next)
+stability_at = machine_step (observed stability_observation)
+    (phase_step stability_begin no_start_marks no_step_marks no_end_fault stability_next)
 
 -- the same of the monitor of grants
 abbrev pub grant_at : StretchPhase Arbitration → Levels → Levels → List Change → Next (StretchPhase Arbitration)
-grant_at = machine_step (observed grant_observation) (phase_step grant_begin grant_start_marks no_step_marks
-    grant_end_fault grant_next)
+grant_at = machine_step (observed grant_observation)
+    (phase_step grant_begin grant_start_marks no_step_marks no_end_fault grant_next)
 
 -- the same of the monitor of interrupt acknowledges
 abbrev pub acknowledge_at : StretchPhase AcknowledgeMemory → Levels → Levels → List Change
     → Next (StretchPhase AcknowledgeMemory)
-acknowledge_at =
-    machine_step (observed acknowledge_observation)
-    (phase_step acknowledge_begin acknowledge_start_marks no_step_marks acknowledge_end_fault acknowledge_next)
+acknowledge_at = machine_step (observed acknowledge_observation)
+    (phase_step acknowledge_begin no_start_marks no_step_marks no_end_fault acknowledge_next)
 
 -- the run of `Known`
 unfoldable pub known_run : StretchPhase Stateless → Levels → List Step → Outcome (StretchPhase Stateless)

@@ -1,18 +1,16 @@
 -- The tables are of the runs without marks, and have no nodes.
 use Rattle.std.proofs.Common.{length}
 use Rattle.vme_monitor.specs.OverStretches.{observed, phase_place, phase_step}
-use Rattle.vme_monitor.specs.Run.{no_step_marks}
+use Rattle.vme_monitor.specs.Run.{no_end_fault, no_start_marks, no_step_marks}
 use Rattle.vme_monitor.specs.KnownRules.{known_begin, known_end_fault, known_next, known_start_marks, known_reset_marks}
 use Rattle.vme_monitor.specs.KnownRules.{known_observation, stateless_place}
-use Rattle.vme_dtb.specs.Machine.{dtb_begin, dtb_end_fault, dtb_start_marks, dtb_observation, dtb_step}
+use Rattle.vme_dtb.specs.Machine.{dtb_begin, dtb_observation, dtb_step}
 use Rattle.vme_dtb.specs.MemoryNumbers.{memory_place}
 use Rattle.vme_dtb.specs.HoldingNumbers.{holding_place}
-use Rattle.vme_dtb.specs.StabilityRules.{stability_begin, stability_end_fault, stability_next}
-use Rattle.vme_dtb.specs.StabilityRules.{stability_start_marks, stability_observation}
+use Rattle.vme_dtb.specs.StabilityRules.{stability_begin, stability_next, stability_observation}
 use Rattle.vme_chains.specs.GrantMemory.{arbitration_place}
-use Rattle.vme_chains.specs.GrantRules.{grant_begin, grant_end_fault, grant_next, grant_start_marks, grant_observation}
-use Rattle.vme_chains.specs.AcknowledgeRules.{acknowledge_begin, acknowledge_end_fault, acknowledge_next}
-use Rattle.vme_chains.specs.AcknowledgeRules.{acknowledge_start_marks, acknowledge_observation}
+use Rattle.vme_chains.specs.GrantRules.{grant_begin, grant_next, grant_start_marks, grant_observation}
+use Rattle.vme_chains.specs.AcknowledgeRules.{acknowledge_begin, acknowledge_next, acknowledge_observation}
 use Rattle.vme_chains.specs.AcknowledgeRules.{acknowledge_memory_place}
 use Rattle.vme_summary.specs.Runs.{known_run, handshake_run, stability_run, grant_run, acknowledge_run}
 use Rattle.vme_part_format.specs.Tables.{table_value}
@@ -33,16 +31,16 @@ returns c =
           (phase_step known_begin known_start_marks known_reset_marks known_end_fault known_next) 4
           (phase_place stateless_place) _ _ o x all.known.outcomes c.in_ok-known.ensures.agrees;
       handshake = AgreesWithRuns-unmarked_summary (observed dtb_observation)
-          (phase_step dtb_begin dtb_start_marks no_step_marks dtb_end_fault dtb_step) 147 (phase_place memory_place) _ _
+          (phase_step dtb_begin no_start_marks no_step_marks no_end_fault dtb_step) 147 (phase_place memory_place) _ _
           o x all.handshake.outcomes c.in_ok-handshake.ensures.agrees;
       stability = AgreesWithRuns-unmarked_summary (observed stability_observation)
-          (phase_step stability_begin stability_start_marks no_step_marks stability_end_fault stability_next) 13
+          (phase_step stability_begin no_start_marks no_step_marks no_end_fault stability_next) 13
           (phase_place holding_place) _ _ o x all.stability.outcomes c.in_ok-stability.ensures.agrees;
       grant = AgreesWithRuns-unmarked_summary (observed grant_observation)
-          (phase_step grant_begin grant_start_marks no_step_marks grant_end_fault grant_next) 35
+          (phase_step grant_begin grant_start_marks no_step_marks no_end_fault grant_next) 35
           (phase_place arbitration_place) _ _ o x all.grant.outcomes c.in_ok-grant.ensures.agrees;
       acknowledge = AgreesWithRuns-unmarked_summary (observed acknowledge_observation)
-          (phase_step acknowledge_begin acknowledge_start_marks no_step_marks acknowledge_end_fault acknowledge_next) 11
+          (phase_step acknowledge_begin no_start_marks no_step_marks no_end_fault acknowledge_next) 11
           (phase_place acknowledge_memory_place) _ _ o x all.acknowledge.outcomes c.in_ok-acknowledge.ensures.agrees;
       nodes = record {
         known = c.in_ok-known.ensures.none;
