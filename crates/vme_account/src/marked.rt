@@ -1,12 +1,12 @@
 //! What is kept of the marks of a recording.
 
 ghost use Rattle.std.specs.Prelude.{◌≡◌, ◌∷◌, ◌&&◌, [], if◌then◌else◌, IfOk, List, None, OnOk, count_by, map};
-ghost use Rattle.std.specs.Prelude.{option_map, true};
+ghost use Rattle.std.specs.Prelude.{true};
 ghost use Rattle.std.specs.List.{fold};
 ghost use Rattle.std.specs.Option.{option_to_list};
-ghost use Rattle.vme_monitor.specs.Run.{answered_kind, cycle_kind, kinds_of, mark_at, tenure_kind, when};
+ghost use Rattle.vme_monitor.specs.Run.{kinds_of, mark_at};
 ghost use Rattle.vme_monitor.specs.declared.mark.Mark.{Mark as MarkOf};
-ghost use Rattle.vme_monitor.specs.declared.mark.MarkKind.TheVariants.{Open, Start, Transfer};
+ghost use Rattle.vme_monitor.specs.declared.mark.MarkKind.TheVariants.{Open, Start};
 ghost use Rattle.vme_summary.specs.MarkedRows.{opening_marks, rows_of};
 ghost use Rattle.vme_account.specs.Marked.{counts_in, marked, marked_next, nothing_marked};
 ghost use Rattle.vme_account.specs.UnendedRows.{open_in, open_row};
@@ -18,7 +18,9 @@ ghost use Rattle.vme_account.specs.declared.row_kind.RowKind.{RowKind as KindOf}
 use crate::open_rows::UnendedRows;
 use crate::row_counts::RowCounts;
 use std::alloc::AllocError;
-use vme_monitor::mark::{BusGrant, CycleStart, Mark, MarkKind, StepMarks, TransferAnswer};
+use vme_monitor::mark::{
+    Mark, MarkKind, StepMarks, answered_kind, cycle_kind, tenure_kind, transfer_kind, when,
+};
 use vme_trace::{Line, Lines};
 
 /// The open rows, and the number of rows of each kind.
@@ -92,16 +94,16 @@ impl Marked {
         ensures { OnOk result (self.new
             ≡ fold marked_next self.old (map (mark_at instant) (kinds_of shown.now))) }
     {
-        self.take_kind(instant, kind_if(shown.reset, MarkKind::Reset))?;
-        self.take_kind(instant, kind_if(shown.start, MarkKind::Start))?;
-        self.take_kind(instant, kind_if(shown.opened, MarkKind::Open))?;
-        self.take_kind(instant, granted_tenure(shown.tenure))?;
-        self.take_kind(instant, kind_if(shown.tenure_end, MarkKind::TenureEnd))?;
-        self.take_kind(instant, started_cycle(shown.cycle))?;
-        self.take_kind(instant, kind_if(shown.cycle_end, MarkKind::CycleEnd))?;
-        self.take_kind(instant, started_transfer(shown.transfer))?;
-        self.take_kind(instant, given_answer(shown.answer))?;
-        self.take_kind(instant, kind_if(shown.close, MarkKind::Close))
+        self.take_kind(instant, when(shown.reset, MarkKind::Reset))?;
+        self.take_kind(instant, when(shown.start, MarkKind::Start))?;
+        self.take_kind(instant, when(shown.opened, MarkKind::Open))?;
+        self.take_kind(instant, tenure_kind(shown.tenure))?;
+        self.take_kind(instant, when(shown.tenure_end, MarkKind::TenureEnd))?;
+        self.take_kind(instant, cycle_kind(shown.cycle))?;
+        self.take_kind(instant, when(shown.cycle_end, MarkKind::CycleEnd))?;
+        self.take_kind(instant, transfer_kind(shown.transfer))?;
+        self.take_kind(instant, answered_kind(shown.answer))?;
+        self.take_kind(instant, when(shown.close, MarkKind::Close))
     }
 
     /// Takes a mark of this kind, if there is one. The only error is want of memory.
@@ -144,80 +146,5 @@ impl Marked {
         let mut counts = self.counts;
         counts.leave(&self.opened)?;
         Ok(counts)
-    }
-}
-
-/// The kind, if it is shown.
-#[inline(always)]
-fn kind_if(is_shown: bool, kind: MarkKind) -> Option<MarkKind>
-    ensures { result ≡ when is_shown kind }
-{
-    if is_shown { Some(kind) } else { None }
-}
-
-/// The mark of a tenure that starts, if one does.
-#[inline(always)]
-fn granted_tenure(shown: Option<BusGrant>) -> Option<MarkKind>
-    ensures { result ≡ option_map tenure_kind shown }
-{
-    match shown {
-        Some(grant) => Some(MarkKind::Tenure {
-            level: grant.level,
-            slot: grant.slot,
-        }),
-        None => None,
-    }
-}
-
-/// The mark of a cycle that starts, if one does.
-#[inline(always)]
-fn started_cycle(shown: Option<CycleStart>) -> Option<MarkKind>
-    ensures { result ≡ option_map cycle_kind shown }
-{
-    match shown {
-        Some(start) => Some(MarkKind::Cycle {
-            class: start.class,
-            am: start.modifier,
-            address: start.address,
-        }),
-        None => None,
-    }
-}
-
-/// The mark of a transfer that starts, if one does.
-#[inline(always)]
-fn started_transfer(shown: Option<bool>) -> Option<MarkKind>
-    ensures { result ≡ option_map Transfer shown }
-{
-    match shown {
-        Some(write) => Some(MarkKind::Transfer { write }),
-        None => None,
-    }
-}
-
-/// The mark of an answer, if there is one.
-#[inline(always)]
-fn given_answer(shown: Option<TransferAnswer>) -> Option<MarkKind>
-    ensures { result ≡ option_map answered_kind shown }
-{
-    match shown {
-        Some(answer) => Some(answer_as_kind(&answer)),
-        None => None,
-    }
-}
-
-/// The mark of an answer.
-#[inline(always)]
-fn answer_as_kind(answer: &TransferAnswer) -> MarkKind
-    ensures { result ≡ answered_kind answer.now }
-{
-    match answer.lanes {
-        None => MarkKind::Answer { line: answer.line },
-        Some(lanes) => MarkKind::WriteAnswer {
-            line: answer.line,
-            moved: lanes.moved,
-            unknown: lanes.unknown,
-            value: lanes.value,
-        },
     }
 }

@@ -5,19 +5,18 @@ ghost use Rattle.std.specs.List.{sum_by};
 ghost use Rattle.std.specs.Option.{option_map, option_to_list};
 ghost use Rattle.vme_monitor.specs.Meeting.{link_marks, row_marks};
 ghost use Rattle.vme_monitor.specs.Outcome.{nothing_shown};
-ghost use Rattle.vme_monitor.specs.Run.{answer_kind as answer_kind_of, answered_kind as answered_kind_of};
-ghost use Rattle.vme_monitor.specs.Run.{break_of_fault};
-ghost use Rattle.vme_monitor.specs.Run.{cycle_kind as cycle_kind_of, extended, kinds_of, mark_at, outcome_at};
-ghost use Rattle.vme_monitor.specs.Run.{tenure_kind as tenure_kind_of, when as when_shown};
-ghost use Rattle.vme_monitor.specs.declared.mark.MarkKind.TheVariants.{Transfer};
+ghost use Rattle.vme_monitor.specs.Run.{break_of_fault, extended, kinds_of, mark_at, outcome_at};
 ghost use Rattle.vme_monitor.specs.Walk.{link_to_place, link_value, later_break as later_break_of, later_link_value};
 ghost use Rattle.vme_monitor.specs.Walk.{later_mark};
 ghost use Rattle.vme_monitor.specs.Walk.{later_outcome, outcome_of};
 
 use crate::machine::Enumerable;
-use crate::mark::{BusGrant, CycleStart, Fault, Mark, MarkKind, Next, StepMarks, TransferAnswer};
+use crate::mark::{
+    Fault, Mark, MarkKind, Next, StepMarks, answered_kind, cycle_kind, tenure_kind, transfer_kind,
+    when,
+};
 use std::alloc::{AllocError, Global};
-use vme_trace::{Break, Lanes, Line};
+use vme_trace::Break;
 
 /// What a run shows until it is merged with others, and where it continues.
 #[derive(Debug, Drop)]
@@ -236,13 +235,6 @@ pub fn marks_in_rows<P: Copy>(rows: &[TableRow<P>]) -> u64
     count
 }
 
-/// A kind, if it is shown.
-fn when(shown: bool, kind: MarkKind) -> Option<MarkKind>
-    ensures { result ≡ when_shown shown kind }
-{
-    if shown { Some(kind) } else { None }
-}
-
 /// Appends a mark, if `kind` is there. The capacity grows fourfold: a long list then mostly moves into pages of its
 /// own, which the system gets back when the list is dropped.
 #[inline(always)]
@@ -256,68 +248,6 @@ fn show(marks: &mut Vec<Mark>, instant: u32, kind: Option<MarkKind>) -> Result<(
         marks.push_reserved(Mark { instant, kind });
     }
     Ok(())
-}
-
-/// The start of a tenure, if one is shown.
-fn tenure_kind(shown: Option<BusGrant>) -> Option<MarkKind>
-    ensures { result ≡ option_map tenure_kind_of shown }
-{
-    match shown {
-        Some(taken) => Some(MarkKind::Tenure {
-            level: taken.level,
-            slot: taken.slot,
-        }),
-        None => None,
-    }
-}
-
-/// The start of a cycle, if one is shown.
-fn cycle_kind(shown: Option<CycleStart>) -> Option<MarkKind>
-    ensures { result ≡ option_map cycle_kind_of shown }
-{
-    match shown {
-        Some(cycle_start) => Some(MarkKind::Cycle {
-            class: cycle_start.class,
-            am: cycle_start.modifier,
-            address: cycle_start.address,
-        }),
-        None => None,
-    }
-}
-
-/// The start of a transfer, if one is shown; `true` is a write.
-fn transfer_kind(shown: Option<bool>) -> Option<MarkKind>
-    ensures { result ≡ option_map Transfer shown }
-{
-    match shown {
-        Some(write) => Some(MarkKind::Transfer { write }),
-        None => None,
-    }
-}
-
-/// An answer by a line, with the data that it takes if it is one of a write.
-fn answer_kind(line: Line, lanes: Option<Lanes>) -> MarkKind
-    ensures { result ≡ answer_kind_of line lanes }
-{
-    match lanes {
-        None => MarkKind::Answer { line },
-        Some(lanes) => MarkKind::WriteAnswer {
-            line,
-            moved: lanes.moved,
-            unknown: lanes.unknown,
-            value: lanes.value,
-        },
-    }
-}
-
-/// The answer of a transfer, if one is shown.
-fn answered_kind(shown: Option<TransferAnswer>) -> Option<MarkKind>
-    ensures { result ≡ option_map answered_kind_of shown }
-{
-    match shown {
-        Some(answered) => Some(answer_kind(answered.line, answered.lanes)),
-        None => None,
-    }
 }
 
 /// Appends the marks of a step. Where this is inlined in a monitor, the kinds that the monitor never shows cost
