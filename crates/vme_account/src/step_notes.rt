@@ -1,7 +1,6 @@
 //! What is noted of the steps of a recording up to its first break.
 
 ghost use Rattle.std.specs.Prelude.{◌≡◌, OnOk, None};
-ghost use Rattle.vme_monitor.specs.Run.{break_of_fault};
 ghost use Rattle.vme_monitor.specs.StepRuns.{seen_in};
 ghost use Rattle.vme_account.specs.FollowedSteps.{AreNotesAtOpening, AreNotesOfStep};
 
@@ -11,7 +10,7 @@ use crate::stretch_events::StretchEvents;
 use crate::stretches::Stretches;
 use std::alloc::AllocError;
 use vme_auditor::AllShown;
-use vme_monitor::mark::Fault;
+use vme_monitor::mark::break_of;
 use vme_monitor::view::StepView;
 use vme_trace::{Break, Lines, Step};
 
@@ -95,17 +94,5 @@ impl StepNotes {
             .take_step(view, step.changes.as_slice(), instant, step.time);
         self.events.begin_if(shown.stretch.start);
         Ok(())
-    }
-}
-
-/// The break of `fault` at `instant`.
-fn break_of(fault: Fault, instant: u32, time: u64) -> Break
-    ensures { result ≡ break_of_fault instant time fault }
-{
-    Break {
-        instant,
-        time,
-        rule: fault.rule,
-        line: fault.line,
     }
 }

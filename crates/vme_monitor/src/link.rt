@@ -5,15 +5,15 @@ ghost use Rattle.std.specs.List.{sum_by};
 ghost use Rattle.std.specs.Option.{option_map, option_to_list};
 ghost use Rattle.vme_monitor.specs.Meeting.{link_marks, row_marks};
 ghost use Rattle.vme_monitor.specs.Outcome.{nothing_shown};
-ghost use Rattle.vme_monitor.specs.Run.{break_of_fault, extended, kinds_of, mark_at, outcome_at};
+ghost use Rattle.vme_monitor.specs.Run.{extended, kinds_of, mark_at, outcome_at};
 ghost use Rattle.vme_monitor.specs.Walk.{link_to_place, link_value, later_break as later_break_of, later_link_value};
 ghost use Rattle.vme_monitor.specs.Walk.{later_mark};
 ghost use Rattle.vme_monitor.specs.Walk.{later_outcome, outcome_of};
 
 use crate::machine::Enumerable;
 use crate::mark::{
-    Fault, Mark, MarkKind, Next, StepMarks, answered_kind, cycle_kind, tenure_kind, transfer_kind,
-    when,
+    Mark, MarkKind, Next, StepMarks, answered_kind, break_of, cycle_kind, tenure_kind,
+    transfer_kind, when,
 };
 use std::alloc::{AllocError, Global};
 use vme_trace::Break;
@@ -266,18 +266,6 @@ fn show_all(marks: &mut Vec<Mark>, instant: u32, shown: StepMarks) -> Result<(),
     show(marks, instant, transfer_kind(shown.transfer))?;
     show(marks, instant, answered_kind(shown.answer))?;
     show(marks, instant, when(shown.close, MarkKind::Close))
-}
-
-/// A fault as a break at an instant and a time.
-fn break_of(fault: Fault, instant: u32, time: u64) -> Break
-    ensures { result ≡ break_of_fault instant time fault }
-{
-    Break {
-        instant,
-        time,
-        rule: fault.rule,
-        line: fault.line,
-    }
 }
 
 impl<P: Copy> TableRow<P> {
