@@ -9,6 +9,7 @@ use Rattle.vme_listing.specs.declared.row.Direction.{Direction}
 use Rattle.vme_listing.specs.declared.row.Row.{Row}
 use Rattle.vme_listing.specs.declared.row.Row.TheVariants as row
 use Rattle.vme_trace.specs.declared.class.Class.{Class}
+use Rattle.vme_monitor.specs.Run.{write_answer}
 use Rattle.vme_monitor.specs.declared.mark.Mark.{Mark}
 use Rattle.vme_monitor.specs.declared.mark.MarkKind.{MarkKind}
 use Rattle.vme_monitor.specs.declared.mark.MarkKind.TheVariants as kind
@@ -191,8 +192,7 @@ module _ (f : Row → ℕ) (no_end : IgnoresEnd f) where
       omega (
         arith,
         total-nothing,
-        total-answered o i (kind.WriteAnswer line moved unknown written)
-            (record { line = line; lanes = Some (record { moved = moved; unknown = unknown; value = written }) }) ms
+        total-answered o i (kind.WriteAnswer line moved unknown written) (write_answer line moved unknown written) ms
             (λ w. refl),
       )
   value-next o i kind.Close ms = omega (arith, total-nothing, closes o.waiting)

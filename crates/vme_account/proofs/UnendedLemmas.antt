@@ -13,6 +13,7 @@ use Rattle.vme_listing.specs.declared.row.Row.TheVariants as row
 use Rattle.vme_trace.specs.declared.class.Class.{Class}
 use Rattle.vme_trace.specs.declared.class.Class.TheVariants as class
 use Rattle.vme_trace.specs.declared.data.Lanes.{Lanes}
+use Rattle.vme_monitor.specs.Run.{write_answer}
 use Rattle.vme_monitor.specs.declared.mark.Mark.{Mark}
 use Rattle.vme_monitor.specs.declared.mark.MarkKind.{MarkKind}
 use Rattle.vme_monitor.specs.declared.mark.MarkKind.TheVariants as kind
@@ -368,8 +369,7 @@ transfer_value-next o i (kind.Answer line) ms = ap (open_transfer_after (rows_of
 transfer_value-next o i (kind.WriteAnswer line moved unknown written) ms =
     ap (open_transfer_after (rows_of o.latest ms))
     (with_waiting-answered o i ms (kind.WriteAnswer line moved unknown written)
-    (record { line = line; lanes = Some (record { moved = moved; unknown = unknown; value = written }) }) (λ w. refl)
-    o.waiting)
+    (write_answer line moved unknown written) (λ w. refl) o.waiting)
 transfer_value-next o i kind.Close ms =
     ap (open_transfer_after (rows_of o.latest ms)) (with_any_waiting-closes o i ms o.waiting)
 

@@ -1,8 +1,9 @@
 -- The rows of marks, each as soon as its kind is known. A row whose end comes later is without an end.
-use Rattle.std.specs.Prelude.{ℕ, List, [], ◌∷◌, ◌++◌, Option, None, Some}
+use Rattle.std.specs.Prelude.{ℕ, List, [], ◌∷◌, ◌++◌, Option, None}
 use Rattle.std.specs.Option.{option_map_or}
 use Rattle.vme_listing.specs.declared.row.Row.{Row}
 use Rattle.vme_listing.specs.declared.row.Row.TheVariants as row
+use Rattle.vme_monitor.specs.Run.{write_answer}
 use Rattle.vme_monitor.specs.declared.mark.Mark.{Mark}
 use Rattle.vme_monitor.specs.declared.mark.MarkKind.{MarkKind}
 use Rattle.vme_monitor.specs.declared.mark.MarkKind.TheVariants as kind
@@ -36,8 +37,7 @@ known_at i kind.CycleEnd o = []
 known_at i (kind.Transfer write) o = pending_rows o.waiting
 known_at i (kind.Answer line) o = answered_rows i (record { line = line; lanes = None }) o
 known_at i (kind.WriteAnswer line moved unknown value) o =
-    answered_rows i
-    (record { line = line; lanes = Some (record { moved = moved; unknown = unknown; value = value }) }) o
+    answered_rows i (write_answer line moved unknown value) o
 known_at i kind.Close o = []
 
 -- the rows whose kinds are known at the marks, one mark after the other

@@ -4,6 +4,7 @@ use Rattle.std.specs.List.{fold}
 use Rattle.std.specs.Option.{option_and_then, option_map_or, option_or}
 use Rattle.vme_listing.specs.declared.row.Row.{Row}
 use Rattle.vme_listing.specs.declared.row.Row.TheVariants as row
+use Rattle.vme_monitor.specs.Run.{write_answer}
 use Rattle.vme_monitor.specs.declared.mark.Mark.{Mark}
 use Rattle.vme_monitor.specs.declared.mark.MarkKind.{MarkKind}
 use Rattle.vme_monitor.specs.declared.mark.MarkKind.TheVariants as kind
@@ -90,7 +91,7 @@ open_after i (kind.Transfer write) o = record o {
 }
 open_after i (kind.Answer line) o = after_answer i (record { line = line; lanes = None }) o
 open_after i (kind.WriteAnswer line moved unknown value) o =
-    after_answer i (record { line = line; lanes = Some (record { moved = moved; unknown = unknown; value = value }) }) o
+    after_answer i (write_answer line moved unknown value) o
 open_after i kind.Close o = record o { answered = None; waiting = closed i o.waiting }
 
 -- ---- some marks

@@ -10,7 +10,7 @@ ghost use Rattle.vme_account.specs.UnendedRows.{pending, unless_left};
 use crate::row_kind::Part;
 use vme_listing::{AnswerLine, Direction, Row};
 use vme_monitor::mark::{Mark, MarkKind, TransferAnswer};
-use vme_trace::{Class, Lanes, Line, Space};
+use vme_trace::{Class, Line, Space};
 
 /// A transfer that waits for its answer.
 #[derive(Clone, Copy, Debug, PartialEq, Eq)]
@@ -119,20 +119,7 @@ impl UnendedRows {
                 moved,
                 unknown,
                 value,
-            } => {
-                let lanes = Lanes {
-                    moved,
-                    unknown,
-                    value,
-                };
-                self.answer(
-                    i,
-                    TransferAnswer {
-                        line,
-                        lanes: Some(lanes),
-                    },
-                );
-            }
+            } => self.answer(i, TransferAnswer::of_write(line, moved, unknown, value)),
             MarkKind::Close => {
                 self.answered = None;
                 self.waiting = closed(i, self.waiting);

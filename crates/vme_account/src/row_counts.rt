@@ -10,7 +10,6 @@ use crate::row_kind::{RowKind, is_of};
 use std::alloc::AllocError;
 use vme_listing::Row;
 use vme_monitor::mark::{Mark, MarkKind, TransferAnswer};
-use vme_trace::Lanes;
 
 /// The number of counts of tenures: for each of 4 levels, one for each slot from 0 to 21.
 const TENURE_COUNTS: usize = 88;
@@ -115,18 +114,11 @@ impl RowCounts {
                 moved,
                 unknown,
                 value,
-            } => {
-                let lanes = Lanes {
-                    moved,
-                    unknown,
-                    value,
-                };
-                let answer = TransferAnswer {
-                    line,
-                    lanes: Some(lanes),
-                };
-                self.answer(i, answer, unended)
-            }
+            } => self.answer(
+                i,
+                TransferAnswer::of_write(line, moved, unknown, value),
+                unended,
+            ),
             MarkKind::TenureEnd | MarkKind::CycleEnd | MarkKind::Close => Ok(()),
         }
     }

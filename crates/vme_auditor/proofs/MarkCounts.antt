@@ -12,6 +12,7 @@ use Rattle.vme_trace.specs.declared.data.Lanes.{Lanes}
 use Rattle.vme_listing.specs.declared.row.AnswerLine.TheVariants.{Berr, Dtack}
 use Rattle.vme_listing.specs.declared.row.Row.{Row}
 use Rattle.vme_listing.specs.declared.row.Row.TheVariants as row
+use Rattle.vme_monitor.specs.Run.{write_answer}
 use Rattle.vme_monitor.specs.declared.mark.Mark.{Mark}
 use Rattle.vme_monitor.specs.declared.mark.MarkKind.{MarkKind}
 use Rattle.vme_monitor.specs.declared.mark.MarkKind.TheVariants as kind
@@ -64,8 +65,8 @@ module _ (at : ℕ → StartedTransfer) where
   kind_tallied a i kind.CycleEnd = a
   kind_tallied a i (kind.Transfer write) = at_transfer suc a (at i) write
   kind_tallied a i (kind.Answer line) = at_answer suc a (record { line = line; lanes = None })
-  kind_tallied a i (kind.WriteAnswer line moved unknown value) = at_answer suc a
-      (record { line = line; lanes = Some (record { moved = moved; unknown = unknown; value = value }) })
+  kind_tallied a i (kind.WriteAnswer line moved unknown value) =
+      at_answer suc a (write_answer line moved unknown value)
   kind_tallied a i kind.Close = a
 
   -- the tally `a` after a mark

@@ -15,6 +15,7 @@ use Rattle.vme_listing.specs.declared.row.AnswerLine.{AnswerLine}
 use Rattle.vme_listing.specs.declared.row.Direction.{Direction}
 use Rattle.vme_listing.specs.declared.row.Row.{Row}
 use Rattle.vme_listing.specs.declared.row.Row.TheVariants as row
+use Rattle.vme_monitor.specs.Run.{write_answer}
 use Rattle.vme_monitor.specs.declared.mark.Mark.{Mark}
 use Rattle.vme_monitor.specs.declared.mark.MarkKind.{MarkKind}
 use Rattle.vme_monitor.specs.declared.mark.MarkKind.TheVariants as kind
@@ -95,8 +96,7 @@ module _ (i : ℕ) (direction : Direction) (close : Option ℕ) where
         by_kind so_far at (kind.Transfer other) = pending
         by_kind so_far at (kind.Answer line) = marked_answer-never latest at (record { line = line; lanes = None })
         by_kind so_far at (kind.WriteAnswer line moved unknown value) =
-            marked_answer-never latest at
-            (record { line = line; lanes = Some (record { moved = moved; unknown = unknown; value = value }) })
+            marked_answer-never latest at (write_answer line moved unknown value)
         by_kind so_far at kind.Close = so_far latest
 
   -- the row of a transfer is one without an answer exactly if it waits through the marks
@@ -119,8 +119,7 @@ module _ (i : ℕ) (direction : Direction) (close : Option ℕ) where
       by_kind so_far at (kind.Answer line) =
           pending_start-marked_answer latest at (record { line = line; lanes = None })
       by_kind so_far at (kind.WriteAnswer line moved unknown value) =
-          pending_start-marked_answer latest at
-          (record { line = line; lanes = Some (record { moved = moved; unknown = unknown; value = value }) })
+          pending_start-marked_answer latest at (write_answer line moved unknown value)
       by_kind so_far at kind.Close = so_far latest
 
 -- the row of a cycle is no reset
