@@ -1,16 +1,14 @@
 //! Which rows are open after some marks, as the marks come.
 
-ghost use Rattle.std.specs.Prelude.{◌≡◌, ◌+◌, ◌%◌, ◌^◌, None, Some};
+ghost use Rattle.std.specs.Prelude.{◌≡◌};
 ghost use Rattle.std.specs.Option.{option_or};
-ghost use Rattle.vme_summary.specs.MarkedRows.{marked_cycle, marked_direction, marked_line};
-ghost use Rattle.vme_trace.specs.Cycle.{highest_address};
 ghost use Rattle.vme_account.specs.UnendedRows.{after_answer, answered_in, closed, nothing_open, open_in, open_next};
 ghost use Rattle.vme_account.specs.UnendedRows.{pending, unless_left};
 
 use crate::row_kind::Part;
-use vme_listing::{AnswerLine, Direction, Row};
+use vme_listing::{Direction, Row};
 use vme_monitor::mark::{Mark, MarkKind, TransferAnswer};
-use vme_trace::{Class, Line, Space};
+use vme_summary::{answered_row, cycle_row, direction_of};
 
 /// A transfer that waits for its answer.
 #[derive(Clone, Copy, Debug, PartialEq, Eq)]
@@ -100,7 +98,7 @@ impl UnendedRows {
             }
             MarkKind::TenureEnd => self.tenure = None,
             MarkKind::Cycle { class, am, address } => {
-                self.cycle = Some(cycle_row(i, class, am, address));
+                self.cycle = Some(cycle_row(i, class, am, address, None));
                 self.latest = Some(i);
             }
             MarkKind::CycleEnd => self.cycle = None,
@@ -203,15 +201,14 @@ fn answered_in(
 {
     match waiting.close {
         Some(_) => other,
-        None => Some(Row::Transfer {
-            direction: waiting.direction,
-            line: answer_line(answer.line),
-            start: waiting.start,
-            cycle,
-            answer: instant,
-            close: None,
-            lanes: answer.lanes,
-        }),
+        None => Some(answered_row(
+            waiting.start,
+            waiting.direction,
+            None,
+            instant,
+            Some(cycle),
+            answer,
+        )),
     }
 }
 
@@ -224,63 +221,4 @@ fn closed(instant: u32, waiting: Option<Waiting>) -> Option<Waiting>
         waiting.close = Some(instant);
     }
     Some(waiting)
-}
-
-/// The direction of a transfer, by whether it is a write.
-fn direction_of(write: bool) -> Direction
-    ensures { result ≡ marked_direction write }
-{
-    if write {
-        Direction::Write
-    } else {
-        Direction::Read
-    }
-}
-
-/// The address on the lines that a modifier code makes meaningful.
-fn meaningful_address(modifier: u8, address: u32) -> u32
-    ensures { result ≡ address % 2 ^ (highest_address modifier + 1) }
-{
-    match Space::of(modifier) {
-        Some(Space::Extended) => address,
-        Some(Space::Standard) => address % 0x0100_0000,
-        Some(Space::Short) => address % 0x0001_0000,
-        None => address % 2,
-    }
-}
-
-/// The row of a cycle that hasn't ended.
-pub(crate) fn cycle_row(start: u32, class: Class, modifier: u8, address: u32) -> Row
-    ensures { result ≡ marked_cycle start modifier address None class }
-{
-    match class {
-        Class::S | Class::K => Row::AddressedCycle {
-            start,
-            class,
-            modifier,
-            address: meaningful_address(modifier, address),
-            end: None,
-        },
-        Class::F => Row::FreeCycle {
-            start,
-            modifier,
-            end: None,
-        },
-        Class::I => Row::InterruptCycle {
-            start,
-            level: (address % 16 / 2) as u8,
-            end: None,
-        },
-    }
-}
-
-/// The line of an answer.
-pub(crate) fn answer_line(line: Line) -> AnswerLine
-    ensures { result ≡ marked_line line }
-{
-    if line == Line::DTACK {
-        AnswerLine::Dtack
-    } else {
-        AnswerLine::Berr
-    }
 }

@@ -2,14 +2,15 @@
 
 ghost use Rattle.std.specs.Prelude.{◌≡◌, ◌+◌, IfOk, OnOk};
 ghost use Rattle.std.specs.List.{fold};
-ghost use Rattle.vme_account.specs.KnownRows.{answered_row, answered_rows, known_at, pending_rows};
+ghost use Rattle.vme_account.specs.KnownRows.{answered_rows, known_at, pending_rows};
 ghost use Rattle.vme_account.specs.RowCounts.{count_in, no_rows, one_if, tenures_of, with_row, with_tenure};
 
-use crate::open_rows::{UnendedRows, Waiting, answer_line, cycle_row};
+use crate::open_rows::UnendedRows;
 use crate::row_kind::{RowKind, is_of};
 use std::alloc::AllocError;
 use vme_listing::Row;
 use vme_monitor::mark::{Mark, MarkKind, TransferAnswer};
+use vme_summary::{answered_row, cycle_row};
 
 /// The number of counts of tenures: for each of 4 levels, one for each slot from 0 to 21.
 const TENURE_COUNTS: usize = 88;
@@ -101,7 +102,7 @@ impl RowCounts {
                 end: None,
             }),
             MarkKind::Cycle { class, am, address } => {
-                self.count(&cycle_row(i, class, am, address))
+                self.count(&cycle_row(i, class, am, address, None))
             }
             MarkKind::Transfer { .. } => self.leave(unended),
             MarkKind::Answer { line } => self.answer(
@@ -147,7 +148,14 @@ impl RowCounts {
         ensures { OnOk result (self.new ≡ fold with_row self.old (answered_rows instant answer unended.now)) }
     {
         match unended.waiting() {
-            Some(waiting) => self.count(&answered_row(instant, answer, unended.latest(), &waiting)),
+            Some(waiting) => self.count(&answered_row(
+                waiting.start,
+                waiting.direction,
+                None,
+                instant,
+                unended.latest(),
+                answer,
+            )),
             None => Ok(()),
         }
     }
@@ -226,26 +234,5 @@ impl RowCounts {
             RowKind::PendingTransfers => self.pending_transfers,
             RowKind::Resets => self.resets,
         }
-    }
-}
-
-/// The row of the answered transfer. If no cycle has started, it is that of a transfer without an answer.
-fn answered_row(instant: u32, answer: TransferAnswer, latest: Option<u32>, waiting: &Waiting) -> Row
-    ensures { result ≡ answered_row instant answer latest waiting.now }
-{
-    match latest {
-        Some(cycle) => Row::Transfer {
-            direction: waiting.direction,
-            line: answer_line(answer.line),
-            start: waiting.start,
-            cycle,
-            answer: instant,
-            close: None,
-            lanes: answer.lanes,
-        },
-        None => Row::PendingTransfer {
-            start: waiting.start,
-            direction: waiting.direction,
-        },
     }
 }

@@ -10,7 +10,8 @@
 //! - `monitors`: the only place that knows which monitors there are; `MonitorSummaries` has a table
 //!   for each. `each_monitor`: [`each_monitor::summarise_monitors`] advances five of them in one
 //!   pass over the steps. `monitor_states`: their states after steps from the opening on.
-//! - `rows`: the rows of a listing, made from marks (events of the bus with their instants).
+//! - `rows`: the rows of a listing, made from marks (events of the bus with their instants): all of
+//!   them ([`listing_by`]), or one ([`cycle_row`], [`answered_row`]).
 //! - `chunk_judge`, `chunk_summary`, `verdict_state`, `listing_state`: judging a recording in
 //!   order, some steps at a time, without marks for a verdict and with them for a listing.
 //! - `stream_judge`, `judged_chunk`, `step_discarder`: [`Judge`] and [`Lister`] take the steps as
@@ -78,7 +79,7 @@ pub use ghost_steps::GhostSteps;
 pub use joining::{JoinFault, append, join, joined_blocks_are_sound, spans_stand_for_blocks};
 pub use judged::{Judged, judge_block};
 pub use judged_chunk::JudgedChunk;
-pub use rows::listing_by;
+pub use rows::{answered_row, cycle_row, direction_of, listing_by};
 pub use running_verdict::RunningVerdict;
 pub use span::Span;
 pub use step_discarder::StepDiscarder;
