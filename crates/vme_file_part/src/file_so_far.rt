@@ -17,10 +17,10 @@ ghost use Rattle.vme_file_part.specs.Growing.{IsExtended, IsFileSoFar, IsFoundOf
 ghost use Rattle.vme_file_part.specs.Growing.{AreTooManyNodes, FileHasNodesAtMost, HaveNodesSoFar, StandsForFile};
 ghost use Rattle.vme_file_part.specs.FileOf.{file_of};
 
-use crate::segments::{joined_table, later_times, segment_of};
+use crate::segments::{joined_table, segment_of};
 use std::alloc::Global;
 use vme_part_format::{Part, Segment};
-use vme_parts::{PartRefusal, steps_of_file};
+use vme_parts::{PartRefusal, joined_times, steps_of_file};
 use vme_trace::{Lines, Step};
 
 /// A file of a recording with the steps given so far, judged from each memory (state of a monitor) in which it may
@@ -60,7 +60,7 @@ fn extended(alloc: Global, first: Segment, second: Segment) -> Result<Segment, P
         steps: by + second.steps,
         opening: first.opening,
         left: second.left,
-        times: later_times(first.times, second.times),
+        times: joined_times(first.times, second.times),
         known,
         handshake,
         stability,

@@ -7,13 +7,12 @@ ghost use Rattle.vme_part_format.specs.Bounds.{HasNodes};
 ghost use Rattle.vme_part_format.specs.Tables.{part_value, segment_value, table_value};
 ghost use Rattle.vme_part_tables.specs.Runs.{IsComposition};
 ghost use Rattle.vme_parts.specs.Buddies.{FewNodes, IsTableOf};
-ghost use Rattle.vme_parts.specs.Joined.{joined_times};
 ghost use Rattle.vme_parts.specs.NodeCounts.{HaveNodesAtMost, IsLackOfMemory, IsPartRefusal, tables_for};
 ghost use Rattle.vme_parts.specs.OnlyWithMarks.{IsRefusedFile};
 ghost use Rattle.vme_file_part.specs.Growing.{StandsForFile};
 
 use std::alloc::Global;
-use vme_part_format::{OutcomeTable, Part, Segment, SegmentTimes};
+use vme_part_format::{OutcomeTable, Part, Segment};
 use vme_part_tables::{are_few_together, composed};
 use vme_parts::{PartRefusal, part_of_steps};
 use vme_trace::{Lines, Step};
@@ -72,23 +71,5 @@ pub(crate) fn joined_table(
     match composed(alloc, first, second, steps) {
         Ok(table) => Ok(table),
         Err(_) => Err(PartRefusal::Memory),
-    }
-}
-
-/// The times of the steps of `before` and then those of `after`.
-pub(crate) fn later_times(
-    before: Option<SegmentTimes>,
-    after: Option<SegmentTimes>,
-) -> Option<SegmentTimes>
-    ensures { result ≡ joined_times before after }
-{
-    match (before, after) {
-        (Some(before), Some(after)) => Some(SegmentTimes {
-            number: before.number,
-            first: before.first,
-            last: after.last,
-        }),
-        (None, after) => after,
-        (before, None) => before,
     }
 }

@@ -10,7 +10,7 @@
 //! - `join`: [`join_parts`] makes one part from any parts, in any order. `same`: whether segments of
 //!   the same files agree. `gather` collects segments and joins buddies, i.e. the two halves of a
 //!   segment (`buddies`). `compact`: whether tables have few nodes. `meets`: whether files follow
-//!   one another, and which one doesn't.
+//!   one another, which one doesn't, and the times of both ([`joined_times`]).
 //! - `tell`: [`tell_verdict`] gives the verdict of the whole recording from a part: it looks at
 //!   which files are covered (`cover`), and runs the monitors through the segments
 //!   (`judged_segments`, `state`). `answers` has its answers.
@@ -71,6 +71,7 @@ pub use join::join_parts;
 pub use join_refusal::JoinRefusal;
 pub use judged_segments::{JudgedSegments, JudgingFault};
 pub use made::part_of_steps;
+pub use meets::joined_times;
 pub use part_refusal::PartRefusal;
 pub use state::{State, States};
 pub use tell::{judged, tell_verdict};

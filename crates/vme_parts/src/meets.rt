@@ -47,7 +47,7 @@ pub(crate) fn torn_file(
 }
 
 /// The times of the steps of `before` and then those of `after`.
-pub(crate) fn joined_times(
+pub fn joined_times(
     before: Option<SegmentTimes>,
     after: Option<SegmentTimes>,
 ) -> Option<SegmentTimes>
