@@ -1,9 +1,7 @@
 -- The segment of one file of a recording, when more steps of the file are given, stands for the file with these steps.
-use Rattle.std.proofs.Common.{◌≡◌, ℕ, zero, suc, ◌+◌, ◌<◌, ◌≤◌, ◌^◌, Bool, true, false, List, [], ◌∷◌, ◌++◌, length}
+use Rattle.std.proofs.Common.{◌≡◌, ℕ, ◌+◌, ◌<◌, ◌≤◌, ◌^◌, Bool, true, false, List, [], ◌∷◌, ◌++◌, length}
 use Rattle.std.proofs.Common.{Option, None, Some, refl, sym, ap, subst, ◌∙◌, arith, append-nil, length-append}
-use Rattle.std.proofs.lemmas.List.Elements.{All-head, All-same}
-use Rattle.std.proofs.lemmas.Nat.{pow-add, pow_pos}
-use Rattle.std.specs.Prelude.{All, if◌then◌else◌, slice_get}
+use Rattle.std.specs.Prelude.{if◌then◌else◌, slice_get}
 use Rattle.std.specs.Option.{option_map, option_or}
 use Rattle.vme_trace.specs.Blocks.{joined_steps}
 use Rattle.vme_trace.specs.Followed.{with_steps}
@@ -24,15 +22,14 @@ use Rattle.vme_summary.specs.Joins.{block_of, first_time, last_time}
 use Rattle.vme_summary.specs.Runs.{known_run, handshake_run, stability_run, grant_run, acknowledge_run}
 use Rattle.vme_summary.proofs.Sound.{SoundParts-of_well_formed}
 use Rattle.vme_summary.proofs.Times.{first_time-append, last_time-append}
-use Rattle.vme_part_format.specs.Tables.{PartValue, SegmentValue, TableValue}
-use Rattle.vme_parts.specs.Files.{IsPartOfFile}
+use Rattle.vme_part_format.specs.Tables.{SegmentValue, TableValue}
+use Rattle.vme_parts.specs.Files.{StandsForFile}
 use Rattle.vme_part_format.specs.declared.segment.SegmentTimes.{SegmentTimes}
 use Rattle.vme_part_tables.specs.Runs.{AgreesWithRuns, IsComposition}
 use Rattle.vme_parts.specs.Buddies.{HasTables}
-use Rattle.vme_file_part.specs.Growing.{IsExtended, FileMayGoOn, StandsForFile}
+use Rattle.vme_file_part.specs.Growing.{IsExtended, FileMayGoOn}
 use Rattle.vme_parts.specs.Meeting.{ends_at, starts_at}
 use Rattle.vme_file_part.specs.FileOf.{file_of}
-use Rattle.vme_parts.specs.OnlyWithMarks.{HaveNodes}
 use Rattle.vme_parts.specs.Opened.{opening_of, opens, steps_of}
 use Rattle.vme_parts.proofs.OneFile.{SegmentStandsFor-one_file, first_with_step-one_file}
 use Rattle.vme_parts.proofs.OpenedFile.{length-steps_of, malformed_step-of_file}
@@ -275,29 +272,3 @@ module _ (number : ℕ) (start : Option ℕ) (t : Trace) (y : List Step) (some :
         file_of-append (malformed_step-of_file number start t.opening (t.steps ++ y) may.formed);
     few = omega (arith, may.few, length-steps_of number start t.steps);
   }
-
--- ---- the only segment of a part
-
--- a segment of one file has the order 0
-order-zero : (order : ℕ) → 1 ≡ 2 ^ order → order ≡ 0
-order-zero zero e = refl
-order-zero (suc k) e = absurd (omega (arith, e, pow-add 2 k 1, pow_pos k, ap (λ (n : ℕ). 2 ^ n) (next k)))
-  where
-    next : (k : ℕ) → suc k ≡ k + 1
-    next k = omega arith
-
--- the only segment of a part of one file stands for that file, if the part has nodes only with marks
-pub StandsForFile-only_segment : (listing : Bool) (b : Block) (p : PartValue) (s : SegmentValue)
-    → IsPartOfFile listing b p → All (HaveNodes listing) p.segments
-    → p.segments ≡ s ∷ [] → StandsForFile listing s b
-StandsForFile-only_segment listing b p s (own, one, first, stands) nodes is =
-    let both : own ∷ [] ≡ s ∷ [] = sym one ∙ is in
-    let same : own ≡ s = cc in
-    subst (λ (u : SegmentValue). StandsForFile listing u b) same
-    (record {
-      first = first;
-      order = order-zero own.order stands.as_many;
-      stands = stands;
-      nodes = All-head (HaveNodes listing) own []
-          (All-same (HaveNodes listing) (own ∷ []) p.segments (sym one) nodes);
-    })

@@ -11,10 +11,11 @@ use Rattle.vme_trace.specs.declared.step.Step.{Step}
 use Rattle.vme_summary.specs.Joins.{block_of}
 use Rattle.vme_part_format.specs.Tables.{PartValue, SegmentValue, segment_value}
 use Rattle.vme_part_format.specs.declared.segment.Segment.{Segment}
-use Rattle.vme_parts.specs.Files.{IsPartOfFile}
-use Rattle.vme_file_part.specs.Growing.{IsFileSoFar, IsFoundOfFile, IsFoundIn, FileMayGoOn, StandsForFile}
+use Rattle.vme_parts.specs.Files.{IsPartOfFile, StandsForFile}
+use Rattle.vme_file_part.specs.Growing.{IsFileSoFar, IsFoundOfFile, IsFoundIn, FileMayGoOn}
 use Rattle.vme_file_part.specs.FileOf.{file_of}
 use Rattle.vme_parts.specs.Opened.{opening_of, steps_of}
+use Rattle.vme_parts.proofs.OneFile.{IsPartOfFile-one}
 use Rattle.vme_file_part.specs.declared.file_so_far.FileSoFar.{FileSoFar}
 use Rattle.vme_file_part.proofs.GrownFile.{file_of-append, FileMayGoOn-append}
 
@@ -123,4 +124,4 @@ module _ (number : ℕ) (listing : Bool) (start : Option ℕ) (f : FileSoFar) (t
       subst (λ (l : Bool). IsPartOfFile l (file_of number start t) p) h.listing_is
       (subst (λ (b : Block). IsPartOfFile f.listing b p)
       (ap (λ (n : ℕ). file_of n f.first_time t) h.number_is ∙ ap (λ (o : Option ℕ). file_of number o t) h.first_time_is)
-      (s, one, stands.first, stands.stands))
+      (IsPartOfFile-one f.listing (file_of f.number f.first_time t) s p stands one))

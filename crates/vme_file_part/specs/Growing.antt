@@ -1,27 +1,18 @@
 -- A file whose steps are given some at a time.
-use Rattle.std.specs.Prelude.{◌≡◌, ℕ, ◌+◌, ◌*◌, ◌^◌, ◌<◌, ◌≤◌, Bool, List, [], ◌∷◌, length, Option, None, Some}
+use Rattle.std.specs.Prelude.{◌≡◌, ℕ, ◌+◌, ◌*◌, ◌^◌, ◌<◌, ◌≤◌, Bool, List, [], length, Option, None, Some}
 use Rattle.vme_trace.specs.Followed.{with_steps}
 use Rattle.vme_trace.specs.Levels.{Levels}
 use Rattle.vme_trace.specs.Trace.{Trace}
 use Rattle.vme_trace.specs.WellFormed.{malformed_step}
-use Rattle.vme_trace.specs.declared.block.Block.{Block}
 use Rattle.vme_trace.specs.declared.step.Step.{Step}
 use Rattle.vme_part_format.specs.Tables.{SegmentValue, segment_value}
 use Rattle.vme_part_format.specs.declared.segment.Segment.{Segment}
 use Rattle.vme_part_tables.specs.Runs.{IsComposition}
+use Rattle.vme_parts.specs.Files.{StandsForFile}
 use Rattle.vme_parts.specs.Joined.{joined_times}
 use Rattle.vme_file_part.specs.FileOf.{file_of}
 use Rattle.vme_parts.specs.NodeCounts.{HaveNodesAtMost}
-use Rattle.vme_parts.specs.OnlyWithMarks.{HaveNodes}
-use Rattle.vme_parts.specs.Stands.{SegmentStandsFor}
 use Rattle.vme_file_part.specs.declared.file_so_far.FileSoFar.{FileSoFar}
-
--- the segment s stands for the one file b, and its tables have nodes only with marks (`listing`)
-pub record StandsForFile (listing : Bool) (s : SegmentValue) (b : Block) : Type 0 where
-  pub first : s.first ≡ b.number
-  pub order : s.order ≡ 0
-  pub stands : SegmentStandsFor listing s (b ∷ [])
-  pub nodes : HaveNodes listing s
 
 -- r is s extended by t, which is of later steps of the same file
 pub record IsExtended (s t r : SegmentValue) : Type 0 where

@@ -1,6 +1,6 @@
 //! A file whose steps are given some at a time.
 
-ghost use Rattle.std.specs.Prelude.{◌≡◌, ◌+◌, ◌<◌, ◌≤◌, ◌++◌, ◌∷◌, ℕ, [], Bool, IfErr, IfOk, List, None, Option, Some};
+ghost use Rattle.std.specs.Prelude.{◌≡◌, ◌+◌, ◌<◌, ◌≤◌, ◌++◌, ℕ, [], Bool, IfErr, IfOk, List, None, Option, Some};
 ghost use Rattle.std.specs.Prelude.{length};
 ghost use Rattle.vme_trace.specs.Followed.{with_steps};
 ghost use Rattle.vme_trace.specs.Levels.{Levels};
@@ -10,17 +10,17 @@ ghost use Rattle.vme_trace.specs.declared.step.Step.{Step};
 ghost use Rattle.vme_summary.specs.Joins.{block_of};
 ghost use Rattle.vme_part_format.specs.Tables.{part_value, segment_value};
 ghost use Rattle.vme_parts.specs.Buddies.{HasTables};
-ghost use Rattle.vme_parts.specs.Files.{IsPartOfFile};
+ghost use Rattle.vme_parts.specs.Files.{IsPartOfFile, StandsForFile};
 ghost use Rattle.vme_parts.specs.NodeCounts.{HaveNodesAtMost, IsLackOfMemory, IsPartRefusal, tables_for};
 ghost use Rattle.vme_parts.specs.OnlyWithMarks.{HaveNodes, IsRefusedFile};
 ghost use Rattle.vme_file_part.specs.Growing.{IsExtended, IsFileSoFar, IsFoundOfFile, IsFoundIn, FileMayGoOn};
-ghost use Rattle.vme_file_part.specs.Growing.{AreTooManyNodes, FileHasNodesAtMost, HaveNodesSoFar, StandsForFile};
+ghost use Rattle.vme_file_part.specs.Growing.{AreTooManyNodes, FileHasNodesAtMost, HaveNodesSoFar};
 ghost use Rattle.vme_file_part.specs.FileOf.{file_of};
 
-use crate::segments::{joined_table, segment_of};
+use crate::segments::joined_table;
 use std::alloc::Global;
 use vme_part_format::{Part, Segment};
-use vme_parts::{PartRefusal, joined_times, steps_of_file};
+use vme_parts::{PartRefusal, joined_times, part_with, segment_of_steps, steps_of_file};
 use vme_trace::{Lines, Step};
 
 /// A file of a recording with the steps given so far, judged from each memory (state of a monitor) in which it may
@@ -88,7 +88,7 @@ fn with_more(
     ensures many { (k : ℕ) → HaveNodesAtMost k (segment_value segment)
         → IfErr result (IsPartRefusal (AreTooManyNodes (k + tables_for (length steps.now)))) }
 {
-    let more = segment_of(alloc, listing, number, &segment.left, steps)?;
+    let more = segment_of_steps(alloc, listing, number, &segment.left, steps)?;
     extended(alloc, segment, more)
 }
 
@@ -109,7 +109,7 @@ fn begun(
 {
     let mut opening = *opening;
     let steps = steps_of_file(number, first_time, &mut opening, steps);
-    segment_of(alloc, listing, number, &opening, steps)
+    segment_of_steps(alloc, listing, number, &opening, steps)
 }
 
 /// The segment of a file that continues with `steps` after those of `segment` or, if there is none, begins with
@@ -158,30 +158,9 @@ fn whole_segment(
         Some(segment) => Ok(segment),
         None => {
             let none = Vec::new(alloc);
-            segment_of(alloc, listing, number, opening, none.as_slice())
+            segment_of_steps(alloc, listing, number, opening, none.as_slice())
         }
     }
-}
-
-/// The part with the one segment `segment`. `backplane` is the sum of the backplane.
-fn part_with(
-    alloc: Global,
-    backplane: u64,
-    listing: bool,
-    segment: Segment,
-) -> Result<Part, PartRefusal>
-    ensures backplane { IfOk result (λ p. p.backplane ≡ backplane) }
-    ensures listing { IfOk result (λ p. p.listing ≡ listing) }
-    ensures one { IfOk result (λ p. (part_value p).segments ≡ segment_value segment ∷ []) }
-    ensures refused { IfErr result IsLackOfMemory }
-{
-    let mut segments = Vec::new(alloc);
-    segments.push(segment)?;
-    Ok(Part {
-        backplane,
-        listing,
-        segments,
-    })
 }
 
 impl FileSoFar {

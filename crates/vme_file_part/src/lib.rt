@@ -4,8 +4,7 @@
 //!
 //! - `file_so_far`: [`FileSoFar`] judges the steps of a dump that is a file, some at a time, and
 //!   makes the part of the file in the end.
-//! - `segments`: the segment of one file, and the composition of the tables of steps that follow one
-//!   another.
+//! - `segments`: the composition of the tables of steps that follow one another.
 //!
 //! # What is proved
 //!

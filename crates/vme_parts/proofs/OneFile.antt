@@ -1,8 +1,9 @@
 -- The segment of one file.
-use Rattle.std.proofs.Common.{◌≡◌, ℕ, ◌+◌, ◌-◌, ◌<◌, Bool, List, [], ◌∷◌, ◌++◌, length, map}
+use Rattle.std.proofs.Common.{◌≡◌, ℕ, ◌+◌, ◌-◌, ◌<◌, Bool, List, [], ◌∷◌, ◌++◌, length}
 use Rattle.std.proofs.Common.{take, refl, ap, sym}
 use Rattle.std.proofs.Common.{◌∙◌, arith, append-nil, Some, None}
-use Rattle.std.specs.Prelude.{slice_get}
+use Rattle.std.proofs.lemmas.List.Elements.{All-cons, All-nil, All-same}
+use Rattle.std.specs.Prelude.{All, slice_get}
 use Rattle.std.specs.Option.{option_map}
 use Rattle.vme_trace.specs.Block.{trace_of}
 use Rattle.vme_trace.specs.Blocks.{joined_steps}
@@ -23,10 +24,10 @@ use Rattle.vme_summary.specs.Joins.{first_time, last_time}
 use Rattle.vme_summary.specs.Runs.{known_run, handshake_run, stability_run, grant_run, acknowledge_run}
 use Rattle.vme_summary.proofs.Extents.{BlocksJoin-one, AreSound-one}
 use Rattle.vme_summary.proofs.Times.{last_or-slice_get}
-use Rattle.vme_part_format.specs.Tables.{SegmentValue, last_of, segment_value}
-use Rattle.vme_part_format.specs.declared.segment.Segment.{Segment}
+use Rattle.vme_part_format.specs.Tables.{PartValue, SegmentValue, last_of}
 use Rattle.vme_part_format.specs.declared.segment.SegmentTimes.{SegmentTimes}
 use Rattle.vme_part_tables.specs.Runs.{AgreesWithRuns}
+use Rattle.vme_parts.specs.Files.{IsPartOfFile, StandsForFile}
 use Rattle.vme_parts.specs.Meeting.{ends_at, starts_at}
 use Rattle.vme_parts.specs.Stands.{SegmentStandsFor, extent_of, first_with_step}
 
@@ -47,11 +48,14 @@ pub levels_after-take_next : (o : Levels) (xs : List Step) (k : ℕ) (x : Step) 
 levels_after-take_next o xs k x h e =
     sym (ap (levels_after o) e ∙ levels_after-append (take k xs) (x ∷ []) o)
 
--- an empty list to which x is pushed has the one value of x
-pub map-pushed_alone : (old new : List Segment) (x : Segment) → old ≡ [] → new ≡ old ++ x ∷ []
-    → map segment_value new ≡ segment_value x ∷ []
-map-pushed_alone old new x e p = ap (map segment_value) p
-    ∙ ap (λ (xs : List Segment). map segment_value (xs ++ x ∷ [])) e
+-- P holds of each element of a list of one, if it holds of the one
+pub All-one : {A : Type 0} (P : A → Type 0) (x : A) (xs : List A) → xs ≡ x ∷ [] → P x → All P xs
+All-one P x xs one h = All-same P xs (x ∷ []) one (All-cons P x [] h (All-nil P))
+
+-- a part whose only segment stands for the file b is the part of b
+pub IsPartOfFile-one : (listing : Bool) (b : Block) (s : SegmentValue) (p : PartValue) → StandsForFile listing s b
+    → p.segments ≡ s ∷ [] → IsPartOfFile listing b p
+IsPartOfFile-one listing b s p stands one = (s, one, stands.first, stands.stands)
 
 -- the file b is the first with a step if it has one
 pub first_with_step-one_file : (number : ℕ) (b : Block) → b.number ≡ number

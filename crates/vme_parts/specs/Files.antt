@@ -3,6 +3,7 @@ use Rattle.std.specs.Prelude.{◌≡◌, ◌↔◌, ℕ, ◌≤◌, ◌^◌, Boo
 use Rattle.vme_trace.specs.declared.block.Block.{Block}
 use Rattle.vme_part_format.specs.Bounds.{FitsPart}
 use Rattle.vme_part_format.specs.Tables.{PartValue, SegmentValue, last_of}
+use Rattle.vme_parts.specs.OnlyWithMarks.{HaveNodes}
 use Rattle.vme_parts.specs.Stands.{SegmentStandsFor}
 
 -- the files of a recording: the one with the index k has the number k
@@ -21,6 +22,13 @@ AllStand listing files ss = All (λ (s : SegmentValue). SegmentStandsFor listing
 pub record IsPartOf (files : List Block) (p : PartValue) : Type 0 where
   pub fits : FitsPart p
   pub stands : AllStand p.listing files p.segments
+
+-- the segment s stands for the one file b, and its tables have nodes only with marks (`listing`)
+pub record StandsForFile (listing : Bool) (s : SegmentValue) (b : Block) : Type 0 where
+  pub first : s.first ≡ b.number
+  pub order : s.order ≡ 0
+  pub stands : SegmentStandsFor listing s (b ∷ [])
+  pub nodes : HaveNodes listing s
 
 -- p is the part of the file b: it has one segment, which stands for b
 abbrev pub IsPartOfFile : Bool → Block → PartValue → Type 0

@@ -5,7 +5,8 @@
 //!
 //! - `file`: [`steps_of_file`] gives the steps of a dump that are those of the file, and the levels
 //!   with which it opens. `made`: [`part_of_steps`] judges them, from each memory (the state of a
-//!   monitor's automaton) in which the file may begin. `pieces` does so with marks. `fits`:
+//!   monitor's automaton) in which the file may begin; [`segment_of_steps`] makes the segment of
+//!   the part, and [`part_with`] the part of a segment. `pieces` does so with marks. `fits`:
 //!   [`can_write`] says whether the part can be written.
 //! - `join`: [`join_parts`] makes one part from any parts, in any order. `same`: whether segments of
 //!   the same files agree. `gather` collects segments and joins buddies, i.e. the two halves of a
@@ -70,7 +71,7 @@ pub use fits::can_write;
 pub use join::join_parts;
 pub use join_refusal::JoinRefusal;
 pub use judged_segments::{JudgedSegments, JudgingFault};
-pub use made::part_of_steps;
+pub use made::{part_of_steps, part_with, segment_of_steps};
 pub use meets::joined_times;
 pub use part_refusal::PartRefusal;
 pub use state::{State, States};

@@ -10,11 +10,10 @@ ghost use Rattle.vme_part_format.specs.Tables.{part_value, segment_value, table_
 ghost use Rattle.vme_part_format.specs.declared.segment.SegmentTimes.{SegmentTimes};
 ghost use Rattle.vme_part_tables.specs.Runs.{AgreesWithRuns};
 ghost use Rattle.vme_parts.specs.FileTables.{AreTablesOf};
-ghost use Rattle.vme_parts.specs.Files.{IsPartOfFile};
+ghost use Rattle.vme_parts.specs.Files.{IsPartOfFile, StandsForFile};
 ghost use Rattle.vme_parts.specs.Meeting.{ends_at, starts_at};
 ghost use Rattle.vme_parts.specs.NodeCounts.{HaveNodesAtMost, IsLackOfMemory, tables_for};
 ghost use Rattle.vme_parts.specs.OnlyWithMarks.{HaveNodes};
-ghost use Rattle.vme_parts.specs.Stands.{SegmentStandsFor};
 
 use crate::part_refusal::PartRefusal;
 use crate::pieces::{lines_after, table_with_marks};
@@ -152,8 +151,9 @@ fn times_of(number: u64, steps: &[Step]) -> Option<SegmentTimes>
     })
 }
 
-/// The segment of one file, from its number, its opening and its steps.
-fn segment_of_steps(
+/// The segment of one file, with marks (`listing`) or without, from its number, its opening and its steps; or why there
+/// is none.
+pub fn segment_of_steps(
     alloc: Global,
     listing: bool,
     number: u32,
@@ -162,10 +162,8 @@ fn segment_of_steps(
 ) -> Result<Segment, PartRefusal>
     requires accepted { malformed_step (trace_of (block_of number opening.now steps.now)) ≡ None }
     requires few { length steps.now ≤ 268435456 }
-    ensures first { IfOk result (λ s. s.first ≡ number) }
-    ensures stands { IfOk result (λ s.
-        SegmentStandsFor listing (segment_value s) (block_of number opening.now steps.now ∷ [])) }
-    ensures nodes { IfOk result (λ s. HaveNodes listing (segment_value s)) }
+    ensures stands { IfOk result
+        (λ s. StandsForFile listing (segment_value s) (block_of number opening.now steps.now)) }
     ensures few { IfOk result (λ s. HaveNodesAtMost (tables_for (length steps.now)) (segment_value s)) }
     ensures refused { IfErr result IsLackOfMemory }
 {
@@ -184,6 +182,27 @@ fn segment_of_steps(
         stability: tables.stability,
         grant: tables.grant,
         acknowledge: tables.acknowledge,
+    })
+}
+
+/// The part with the one segment `segment`. `backplane` is the sum of the backplane.
+pub fn part_with(
+    alloc: Global,
+    backplane: u64,
+    listing: bool,
+    segment: Segment,
+) -> Result<Part, PartRefusal>
+    ensures backplane { IfOk result (λ p. p.backplane ≡ backplane) }
+    ensures listing { IfOk result (λ p. p.listing ≡ listing) }
+    ensures one { IfOk result (λ p. (part_value p).segments ≡ segment_value segment ∷ []) }
+    ensures refused { IfErr result IsLackOfMemory }
+{
+    let mut segments = Vec::new(alloc);
+    segments.push(segment)?;
+    Ok(Part {
+        backplane,
+        listing,
+        segments,
     })
 }
 
@@ -208,11 +227,5 @@ pub fn part_of_steps(
     ensures refused { IfErr result IsLackOfMemory }
 {
     let segment = segment_of_steps(alloc, listing, number, opening, steps)?;
-    let mut segments = Vec::new(alloc);
-    segments.push(segment)?;
-    Ok(Part {
-        backplane,
-        listing,
-        segments,
-    })
+    part_with(alloc, backplane, listing, segment)
 }

@@ -4,22 +4,23 @@ use Rattle.std.proofs.lemmas.Result.{IfOk-weaker, err_from_is_err_and}
 use Rattle.vme_trace.specs.Levels.{Levels}
 use Rattle.vme_summary.specs.Joins.{block_of}
 use Rattle.vme_part_format.specs.Tables.{segment_value}
+use Rattle.vme_parts.specs.Files.{StandsForFile}
 use Rattle.vme_parts.specs.NodeCounts.{tables_for}
-use Rattle.vme_file_part.specs.Growing.{AreTooManyNodes, StandsForFile}
+use Rattle.vme_file_part.specs.Growing.{AreTooManyNodes}
 use Rattle.vme_file_part.proofs.CountedNodes.{HaveNodesAtMost-extended, IsPartRefusal-of_memory}
 use Rattle.vme_file_part.proofs.GrownFile.{malformed_step-rest, StandsForFile-grown, left-of_file, steps-of_file}
 use Rattle.vme_file_part.proofs.GrownFile.{HasTables-of_file}
 use Rattle.vme_file_part.proofs.MarkedNodes.{IsRefusedFile-of_memory}
 use Rattle.vme_file_part.proofs.file_so_far.with_more.Goals as goal
 
-pub segment_of-requires-clause-accepted : goal.segment_of-requires-clause-accepted
-segment_of-requires-clause-accepted c =
+pub segment_of_steps-requires-clause-accepted : goal.segment_of_steps-requires-clause-accepted
+segment_of_steps-requires-clause-accepted c =
     let (o, x, a, may) = c.requires in
     malformed_step-rest o c.args.segment.left x c.args.steps.now
     (left-of_file c.args.listing (segment_value c.args.segment) (block_of c.args.number o x) a) may.formed
 
-pub segment_of-requires-clause-few : goal.segment_of-requires-clause-few
-segment_of-requires-clause-few c =
+pub segment_of_steps-requires-clause-few : goal.segment_of_steps-requires-clause-few
+segment_of_steps-requires-clause-few c =
     let (o, x, a, may) = c.requires in omega (arith, may.few)
 
 pub extended-requires-clause-first : goal.extended-requires-clause-first

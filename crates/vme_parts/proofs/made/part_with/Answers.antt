@@ -1,7 +1,7 @@
 use Rattle.std.proofs.Common.{List, [], ◌++◌, ◌∷◌, ap, map, ◌∙◌}
 use Rattle.vme_part_format.specs.Tables.{segment_value}
 use Rattle.vme_part_format.specs.declared.segment.Segment.{Segment}
-use Rattle.vme_file_part.proofs.file_so_far.part_with.Goals as goal
+use Rattle.vme_parts.proofs.made.part_with.Goals as goal
 
 pub returns-clause-one : goal.returns-clause-one
 returns-clause-one c =
