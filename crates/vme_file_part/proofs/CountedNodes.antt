@@ -1,13 +1,11 @@
 -- How many nodes the tables of a file so far have at most, and when two tables have too many together.
-use Rattle.std.proofs.Common.{inl, inr, ◌≡◌, ℕ, ◌+◌, ◌*◌, ◌<◌, ◌≤◌, ◌^◌, Bool, true, false, length, map, Option}
+use Rattle.std.proofs.Common.{inl, inr, ℕ, ◌+◌, ◌*◌, ◌<◌, ◌≤◌, ◌^◌, Option}
 use Rattle.std.proofs.Common.{None, Some, arith}
 use Rattle.std.specs.Prelude.{◌⊎◌}
 use Rattle.std.proofs.Math.Nat.{mul-le-mul_right}
-use Rattle.std.proofs.lemmas.Bool.{both_ways, cases_lt}
-use Rattle.std.proofs.lemmas.List.{length-map}
-use Rattle.vme_part_format.specs.Tables.{SegmentValue, TableValue, node_value, segment_value, table_value}
+use Rattle.std.proofs.lemmas.Bool.{cases_lt}
+use Rattle.vme_part_format.specs.Tables.{SegmentValue, TableValue, segment_value}
 use Rattle.vme_part_format.specs.declared.segment.Segment.{Segment}
-use Rattle.vme_part_format.specs.declared.table.OutcomeTable.{OutcomeTable}
 use Rattle.vme_parts.specs.Buddies.{FewNodes, IsTableOf}
 use Rattle.vme_parts.specs.NodeCounts.{HasNodesAtMost, HaveNodesAtMost, IsLackOfMemory, IsPartRefusal}
 use Rattle.vme_parts.specs.declared.part_refusal.PartRefusal.{PartRefusal}
@@ -46,16 +44,6 @@ HaveNodesAtMost-extended k j s t r e a b =
     }
 
 -- ---- too many
-
--- two tables don't have few nodes together, if the test says so
-pub not_few-by_test : (a b : OutcomeTable) (few : Bool)
-    → (length a.entries.items + (length a.nodes.items + length b.nodes.items) < 2 ^ 32 → few ≡ true) → few ≡ false
-    → FewNodes (table_value a) (table_value b) → ⊥
-not_few-by_test a b few is_few is_not_few fits =
-    let within : length a.entries.items
-    + (length (map node_value a.nodes.items) + length (map node_value b.nodes.items)) < 2 ^ 32 = fits in
-    both_ways few is_not_few
-    (is_few (omega (arith, within, length-map a.nodes.items node_value, length-map b.nodes.items node_value)))
 
 -- if a, a table of at most 147 memories, has at most k nodes for each, and b at most j, and 32 bits can't number those
 -- of both, then k + j may be too many

@@ -10,8 +10,8 @@ ghost use Rattle.vme_parts.specs.OnlyWithMarks.{IsRefusedFile};
 
 use std::alloc::Global;
 use vme_part_format::OutcomeTable;
-use vme_part_tables::{are_few_together, composed};
-use vme_parts::PartRefusal;
+use vme_part_tables::composed;
+use vme_parts::{PartRefusal, nodes_are_few};
 
 /// The composition of two tables. The first is of `steps` steps.
 pub(crate) fn joined_table(
@@ -26,7 +26,7 @@ pub(crate) fn joined_table(
         → HasNodes listing (table_value second).nodes → IfErr result (IsRefusedFile listing) }
     ensures many { IfErr result (IsPartRefusal (FewNodes (table_value first) (table_value second) → ⊥)) }
 {
-    if !are_few_together(&first, &second) {
+    if !nodes_are_few(&first, &second) {
         return Err(PartRefusal::TooManyNodes);
     }
     match composed(alloc, first, second, steps) {

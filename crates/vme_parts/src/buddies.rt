@@ -81,7 +81,7 @@ pub(crate) fn are_joinable(first: &Segment, second: &Segment) -> bool
 }
 
 /// Whether the ways of the composition of two tables fit in 32 bits.
-pub(crate) fn nodes_are_few(first: &OutcomeTable, second: &OutcomeTable) -> bool
+pub fn nodes_are_few(first: &OutcomeTable, second: &OutcomeTable) -> bool
     requires { HasWays (table_value first.now) }
     ensures few { IsTrue result → FewNodes (table_value first.now) (table_value second.now) }
     ensures many { result ≡ false → FewNodes (table_value first.now) (table_value second.now) → ⊥ }

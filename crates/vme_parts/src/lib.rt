@@ -66,6 +66,7 @@ mod state;
 mod tell;
 
 pub use answers::{RecordingAnswer, WideVerdict};
+pub use buddies::nodes_are_few;
 pub use file::steps_of_file;
 pub use fits::can_write;
 pub use join::join_parts;
