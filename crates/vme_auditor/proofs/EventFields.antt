@@ -40,10 +40,8 @@ nets_taken-any v w get now taken (c ∷ cs) e =
     nets_taken-any v w get now taken cs (net_taken v w e c) ∙ ap (λ b. b || list_any now cs) (taken e c)
     ∙ or_assoc (get e) (now c) (list_any now cs)
 
--- a field that an answer doesn't alter
-module _ (get : AskedEvents → Bool) (kept : (e : AskedEvents) (b : Bool)
-    → get (record e { answer = true; interrupt = b }) ≡ get e)
-    (single : (e : AskedEvents) → get (record e { single_again = true }) ≡ get e)
+-- a field that a further answer doesn't alter
+module _ (get : AskedEvents → Bool) (single : (e : AskedEvents) → get (record e { single_again = true }) ≡ get e)
     (block : (e : AskedEvents) → get (record e { block_again = true }) ≡ get e)
     (again : (e : AskedEvents) → get (record e { interrupt_again = true }) ≡ get e) where
   -- a further answer in a cycle leaves the field as it is
@@ -58,16 +56,16 @@ module _ (get : AskedEvents → Bool) (kept : (e : AskedEvents) (b : Bool)
   further_taken-unaltered e Interrupt = refl
   further_taken-unaltered e InterruptDone = again e
 
-  -- an answer, or none, leaves the field as it is
-  answer_taken-unaltered : (e : AskedEvents) (cycle : CyclePhase) (starts : Option CycleStart)
-      (answer : Option TransferAnswer)
+  -- an answer, or none, leaves the field as it is, if no answer alters it
+  answer_taken-unaltered : ((e : AskedEvents) (b : Bool) → get (record e { answer = true; interrupt = b }) ≡ get e)
+      → (e : AskedEvents) (cycle : CyclePhase) (starts : Option CycleStart) (answer : Option TransferAnswer)
       → get (answer_taken e cycle starts answer) ≡ get e
-  answer_taken-unaltered e cycle starts None = refl
-  answer_taken-unaltered e cycle None (Some a) =
+  answer_taken-unaltered kept e cycle starts None = refl
+  answer_taken-unaltered kept e cycle None (Some a) =
       further_taken-unaltered (record e { answer = true; interrupt = e.interrupt || is_interrupt_entered cycle None })
       cycle
       ∙ kept e (e.interrupt || is_interrupt_entered cycle None)
-  answer_taken-unaltered e cycle (Some s) (Some a) = kept e (e.interrupt || is_interrupt_entered cycle (Some s))
+  answer_taken-unaltered kept e cycle (Some s) (Some a) = kept e (e.interrupt || is_interrupt_entered cycle (Some s))
 
 -- the cycle is single and had an answer
 abbrev pub is_single_answered : CyclePhase → Bool
@@ -131,72 +129,29 @@ interrupt_again-further_taken e BlockWriting = sym (or-false e.interrupt_again)
 interrupt_again-further_taken e Interrupt = sym (or-false e.interrupt_again)
 interrupt_again-further_taken e InterruptDone = sym (or-true e.interrupt_again)
 
+-- if a further answer sets a field exactly where `is` holds of the cycle, and an answer doesn't alter it otherwise,
+-- then after an answer, or none, it is set exactly if it was before, or the answer is a further one of such a cycle
+again-answer_taken : (get : AskedEvents → Bool) (is : CyclePhase → Bool)
+    → ((e : AskedEvents) (b : Bool) → get (record e { answer = true; interrupt = b }) ≡ get e)
+    → ((e : AskedEvents) (cycle : CyclePhase) → get (further_taken e cycle) ≡ (get e || is cycle))
+    → (cycle : CyclePhase) (e : AskedEvents) (starts : Option CycleStart) (answer : Option TransferAnswer)
+    → get (answer_taken e cycle starts answer) ≡ (get e || answers_again is cycle starts answer)
+again-answer_taken get is kept further cycle e starts None = sym (or-false (get e))
+again-answer_taken get is kept further cycle e None (Some a) =
+    further (record e { answer = true; interrupt = e.interrupt || is_interrupt_entered cycle None }) cycle
+    ∙ ap (λ b. b || is cycle) (kept e (e.interrupt || is_interrupt_entered cycle None))
+again-answer_taken get is kept further cycle e (Some s) (Some a) =
+    kept e (e.interrupt || is_interrupt_entered cycle (Some s)) ∙ sym (or-false (get e))
+
 -- the step is in the cycle `cycle`, unless one starts at it
 module _ (cycle : CyclePhase) where
-  -- after an answer, or none, `single_again` has happened exactly if it had before, or the answer is a further one of a
-  -- single cycle
-  single_again-answer_taken : (e : AskedEvents) (starts : Option CycleStart) (answer : Option TransferAnswer)
-      → (answer_taken e cycle starts answer).single_again
-      ≡ (e.single_again || answers_again is_single_answered cycle starts answer)
-  single_again-answer_taken e starts None = sym (or-false e.single_again)
-  single_again-answer_taken e None (Some a) =
-      single_again-further_taken
-      (record e { answer = true; interrupt = e.interrupt || is_interrupt_entered cycle None }) cycle
-  single_again-answer_taken e (Some s) (Some a) = sym (or-false e.single_again)
-
-  -- after an answer, or none, `block_again` has happened exactly if it had before, or the answer is a further one of a
-  -- block transfer
-  block_again-answer_taken : (e : AskedEvents) (starts : Option CycleStart) (answer : Option TransferAnswer)
-      → (answer_taken e cycle starts answer).block_again
-      ≡ (e.block_again || answers_again is_block_answered cycle starts answer)
-  block_again-answer_taken e starts None = sym (or-false e.block_again)
-  block_again-answer_taken e None (Some a) =
-      block_again-further_taken (record e { answer = true; interrupt = e.interrupt || is_interrupt_entered cycle None })
-      cycle
-  block_again-answer_taken e (Some s) (Some a) = sym (or-false e.block_again)
-
-  -- after an answer, or none, `interrupt_again` has happened exactly if it had before, or the answer is a further one
-  -- of an interrupt acknowledge
-  interrupt_again-answer_taken : (e : AskedEvents) (starts : Option CycleStart) (answer : Option TransferAnswer)
-      → (answer_taken e cycle starts answer).interrupt_again
-      ≡ (e.interrupt_again || answers_again is_interrupt_answered cycle starts answer)
-  interrupt_again-answer_taken e starts None = sym (or-false e.interrupt_again)
-  interrupt_again-answer_taken e None (Some a) =
-      interrupt_again-further_taken
-      (record e { answer = true; interrupt = e.interrupt || is_interrupt_entered cycle None }) cycle
-  interrupt_again-answer_taken e (Some s) (Some a) = sym (or-false e.interrupt_again)
-
-  -- that an answer is a further one doesn't alter the event `answer`
-  answer-further_taken : (e : AskedEvents) (c : CyclePhase) → (further_taken e c).answer ≡ e.answer
-  answer-further_taken e Free = refl
-  answer-further_taken e Single = refl
-  answer-further_taken e SingleRead = refl
-  answer-further_taken e SingleDone = refl
-  answer-further_taken e Block = refl
-  answer-further_taken e BlockReading = refl
-  answer-further_taken e BlockWriting = refl
-  answer-further_taken e Interrupt = refl
-  answer-further_taken e InterruptDone = refl
-
-  -- that an answer is a further one doesn't alter the event `interrupt`
-  interrupt-further_taken : (e : AskedEvents) (c : CyclePhase) → (further_taken e c).interrupt ≡ e.interrupt
-  interrupt-further_taken e Free = refl
-  interrupt-further_taken e Single = refl
-  interrupt-further_taken e SingleRead = refl
-  interrupt-further_taken e SingleDone = refl
-  interrupt-further_taken e Block = refl
-  interrupt-further_taken e BlockReading = refl
-  interrupt-further_taken e BlockWriting = refl
-  interrupt-further_taken e Interrupt = refl
-  interrupt-further_taken e InterruptDone = refl
-
   -- after an answer, or none, `answer` has happened exactly if it had before, or there is an answer
   answer-answer_taken : (e : AskedEvents) (starts : Option CycleStart) (answer : Option TransferAnswer)
       → (answer_taken e cycle starts answer).answer ≡ (e.answer || is_some answer)
   answer-answer_taken e starts None = sym (or-false e.answer)
   answer-answer_taken e None (Some a) =
-      answer-further_taken (record e { answer = true; interrupt = e.interrupt || is_interrupt_entered cycle None })
-      cycle
+      further_taken-unaltered (λ e. e.answer) (λ e. refl) (λ e. refl) (λ e. refl)
+      (record e { answer = true; interrupt = e.interrupt || is_interrupt_entered cycle None }) cycle
       ∙ sym (or-true e.answer)
   answer-answer_taken e (Some s) (Some a) = sym (or-true e.answer)
 
@@ -207,8 +162,8 @@ module _ (cycle : CyclePhase) where
       ≡ (e.interrupt || (is_some answer && is_interrupt_entered cycle starts))
   interrupt-answer_taken e starts None = sym (or-false e.interrupt)
   interrupt-answer_taken e None (Some a) =
-      interrupt-further_taken (record e { answer = true; interrupt = e.interrupt || is_interrupt_entered cycle None })
-      cycle
+      further_taken-unaltered (λ e. e.interrupt) (λ e. refl) (λ e. refl) (λ e. refl)
+      (record e { answer = true; interrupt = e.interrupt || is_interrupt_entered cycle None }) cycle
   interrupt-answer_taken e (Some s) (Some a) = refl
 
 -- what a step to a judged instant does to each event
@@ -236,69 +191,71 @@ module _ (e : AskedEvents) (m : HandshakeMemory) (v w : Levels) (cs : List Chang
   abbrev answers : AskedEvents
   answers = answer_taken answering m.cycle shown.cycle shown.answer
 
+  -- a field that no change of a net, no start of a tenure and no answer alters is the same after these
+  at_step-unaltered : (get : AskedEvents → Bool) → ((e : AskedEvents) (c : Change) → get (net_taken v w e c) ≡ get e)
+      → ((e : AskedEvents) → get (tenure_taken e v w) ≡ get e)
+      → ((e : AskedEvents) (b : Bool) → get (record e { answer = true; interrupt = b }) ≡ get e)
+      → ((e : AskedEvents) → get (record e { single_again = true }) ≡ get e)
+      → ((e : AskedEvents) → get (record e { block_again = true }) ≡ get e)
+      → ((e : AskedEvents) → get (record e { interrupt_again = true }) ≡ get e) → get stepped ≡ get answering
+  at_step-unaltered get nets tenures kept single block again =
+      nets_taken-unaltered v w get nets cs (tenure_taken answers v w) ∙ tenures answers
+      ∙ answer_taken-unaltered get single block again kept answering m.cycle shown.cycle shown.answer
+
+  -- a field that each change may set, and nothing else of these alters, is set after them exactly if it was set before
+  -- or a change sets it
+  at_step-any : (get : AskedEvents → Bool) (now : Change → Bool)
+      → ((e : AskedEvents) (c : Change) → get (net_taken v w e c) ≡ (get e || now c))
+      → ((e : AskedEvents) → get (tenure_taken e v w) ≡ get e)
+      → ((e : AskedEvents) (b : Bool) → get (record e { answer = true; interrupt = b }) ≡ get e)
+      → ((e : AskedEvents) → get (record e { single_again = true }) ≡ get e)
+      → ((e : AskedEvents) → get (record e { block_again = true }) ≡ get e)
+      → ((e : AskedEvents) → get (record e { interrupt_again = true }) ≡ get e)
+      → get stepped ≡ (get answering || list_any now cs)
+  at_step-any get now taken tenures kept single block again =
+      nets_taken-any v w get now taken cs (tenure_taken answers v w)
+      ∙ ap (λ b. b || list_any now cs) (tenures answers
+      ∙ answer_taken-unaltered get single block again kept answering m.cycle shown.cycle shown.answer)
+
   -- `cycle` has happened after the step exactly if it had before, or a cycle starts
   pub cycle-at_step : stepped.cycle ≡ (e.cycle || is_some shown.cycle)
   cycle-at_step =
-      nets_taken-unaltered v w (λ e. e.cycle) (λ e c. refl) cs (tenure_taken answers v w)
-      ∙ answer_taken-unaltered (λ e. e.cycle) (λ e b. refl) (λ e. refl) (λ e. refl) (λ e. refl) answering m.cycle
-      shown.cycle
-      shown.answer
+      at_step-unaltered (λ e. e.cycle) (λ e c. refl) (λ e. refl) (λ e b. refl) (λ e. refl) (λ e. refl) (λ e. refl)
 
   -- `cycle_end` has happened after the step exactly if it had before, or the address strobe rises
   pub cycle_end-at_step : stepped.cycle_end ≡ (e.cycle_end || rises_between v w AS)
   cycle_end-at_step =
-      nets_taken-unaltered v w (λ e. e.cycle_end) (λ e c. refl) cs (tenure_taken answers v w)
-      ∙ answer_taken-unaltered (λ e. e.cycle_end) (λ e b. refl) (λ e. refl) (λ e. refl) (λ e. refl) answering m.cycle
-      shown.cycle
-      shown.answer
+      at_step-unaltered (λ e. e.cycle_end) (λ e c. refl) (λ e. refl) (λ e b. refl) (λ e. refl) (λ e. refl) (λ e. refl)
 
   -- `transfer` has happened after the step exactly if it had before, or a transfer starts
   pub transfer-at_step : stepped.transfer ≡ (e.transfer || is_some shown.transfer)
   transfer-at_step =
-      nets_taken-unaltered v w (λ e. e.transfer) (λ e c. refl) cs (tenure_taken answers v w)
-      ∙ answer_taken-unaltered (λ e. e.transfer) (λ e b. refl) (λ e. refl) (λ e. refl) (λ e. refl) answering m.cycle
-      shown.cycle
-      shown.answer
+      at_step-unaltered (λ e. e.transfer) (λ e c. refl) (λ e. refl) (λ e b. refl) (λ e. refl) (λ e. refl) (λ e. refl)
 
   -- `write` has happened after the step exactly if it had before, or a write starts
   pub write-at_step : stepped.write ≡ (e.write || option_map_or (λ write. write) shown.transfer false)
   write-at_step =
-      nets_taken-unaltered v w (λ e. e.write) (λ e c. refl) cs (tenure_taken answers v w)
-      ∙ answer_taken-unaltered (λ e. e.write) (λ e b. refl) (λ e. refl) (λ e. refl) (λ e. refl) answering m.cycle
-      shown.cycle
-      shown.answer
+      at_step-unaltered (λ e. e.write) (λ e c. refl) (λ e. refl) (λ e b. refl) (λ e. refl) (λ e. refl) (λ e. refl)
 
   -- `strobe_rise` has happened after the step exactly if it had before, or a strobe rises within a transfer
   pub strobe_rise-at_step : stepped.strobe_rise ≡ (e.strobe_rise || (is_within m.transfer && strobe_rises_between v w))
   strobe_rise-at_step =
-      nets_taken-unaltered v w (λ e. e.strobe_rise) (λ e c. refl) cs (tenure_taken answers v w)
-      ∙ answer_taken-unaltered (λ e. e.strobe_rise) (λ e b. refl) (λ e. refl) (λ e. refl) (λ e. refl) answering m.cycle
-      shown.cycle
-      shown.answer
+      at_step-unaltered (λ e. e.strobe_rise) (λ e c. refl) (λ e. refl) (λ e b. refl) (λ e. refl) (λ e. refl) (λ e. refl)
 
   -- `strobe_fall` has happened after the step exactly if it had before, or a strobe falls within a transfer
   pub strobe_fall-at_step : stepped.strobe_fall ≡ (e.strobe_fall || (is_within m.transfer && strobe_falls_between v w))
   strobe_fall-at_step =
-      nets_taken-unaltered v w (λ e. e.strobe_fall) (λ e c. refl) cs (tenure_taken answers v w)
-      ∙ answer_taken-unaltered (λ e. e.strobe_fall) (λ e b. refl) (λ e. refl) (λ e. refl) (λ e. refl) answering m.cycle
-      shown.cycle
-      shown.answer
+      at_step-unaltered (λ e. e.strobe_fall) (λ e c. refl) (λ e. refl) (λ e b. refl) (λ e. refl) (λ e. refl) (λ e. refl)
 
   -- `answer_fall` has happened after the step exactly if it had before, or an answer line falls
   pub answer_fall-at_step : stepped.answer_fall ≡ (e.answer_fall || answer_between v w)
   answer_fall-at_step =
-      nets_taken-unaltered v w (λ e. e.answer_fall) (λ e c. refl) cs (tenure_taken answers v w)
-      ∙ answer_taken-unaltered (λ e. e.answer_fall) (λ e b. refl) (λ e. refl) (λ e. refl) (λ e. refl) answering m.cycle
-      shown.cycle
-      shown.answer
+      at_step-unaltered (λ e. e.answer_fall) (λ e c. refl) (λ e. refl) (λ e b. refl) (λ e. refl) (λ e. refl) (λ e. refl)
 
   -- `answer_rise` has happened after the step exactly if it had before, or an answer line rises
   pub answer_rise-at_step : stepped.answer_rise ≡ (e.answer_rise || (rises_between v w DTACK || rises_between v w BERR))
   answer_rise-at_step =
-      nets_taken-unaltered v w (λ e. e.answer_rise) (λ e c. refl) cs (tenure_taken answers v w)
-      ∙ answer_taken-unaltered (λ e. e.answer_rise) (λ e b. refl) (λ e. refl) (λ e. refl) (λ e. refl) answering m.cycle
-      shown.cycle
-      shown.answer
+      at_step-unaltered (λ e. e.answer_rise) (λ e c. refl) (λ e. refl) (λ e b. refl) (λ e. refl) (λ e. refl) (λ e. refl)
       ∙ or_assoc e.answer_rise (rises_between v w DTACK) (rises_between v w BERR)
 
   -- `answer` has happened after the step exactly if it had before, or a transfer is answered
@@ -321,7 +278,8 @@ module _ (e : AskedEvents) (m : HandshakeMemory) (v w : Levels) (cs : List Chang
       ≡ (e.single_again || answers_again is_single_answered m.cycle shown.cycle shown.answer)
   single_again-at_step =
       nets_taken-unaltered v w (λ e. e.single_again) (λ e c. refl) cs (tenure_taken answers v w)
-      ∙ single_again-answer_taken m.cycle answering shown.cycle shown.answer
+      ∙ again-answer_taken (λ e. e.single_again) is_single_answered (λ e b. refl) single_again-further_taken
+      m.cycle answering shown.cycle shown.answer
 
   -- `block_again` has happened after the step exactly if it had before, or a further transfer of a block transfer is
   -- answered
@@ -329,7 +287,8 @@ module _ (e : AskedEvents) (m : HandshakeMemory) (v w : Levels) (cs : List Chang
       ≡ (e.block_again || answers_again is_block_answered m.cycle shown.cycle shown.answer)
   block_again-at_step =
       nets_taken-unaltered v w (λ e. e.block_again) (λ e c. refl) cs (tenure_taken answers v w)
-      ∙ block_again-answer_taken m.cycle answering shown.cycle shown.answer
+      ∙ again-answer_taken (λ e. e.block_again) is_block_answered (λ e b. refl) block_again-further_taken
+      m.cycle answering shown.cycle shown.answer
 
   -- `interrupt_again` has happened after the step exactly if it had before, or a further transfer of an interrupt
   -- acknowledge is answered
@@ -337,16 +296,16 @@ module _ (e : AskedEvents) (m : HandshakeMemory) (v w : Levels) (cs : List Chang
       ≡ (e.interrupt_again || answers_again is_interrupt_answered m.cycle shown.cycle shown.answer)
   interrupt_again-at_step =
       nets_taken-unaltered v w (λ e. e.interrupt_again) (λ e c. refl) cs (tenure_taken answers v w)
-      ∙ interrupt_again-answer_taken m.cycle answering shown.cycle shown.answer
+      ∙ again-answer_taken (λ e. e.interrupt_again) is_interrupt_answered (λ e b. refl) interrupt_again-further_taken
+      m.cycle answering shown.cycle shown.answer
 
   -- `tenure` has happened after the step exactly if it had before, or BBSY falls
   pub tenure-at_step : stepped.tenure ≡ (e.tenure || falls_between v w BBSY)
   tenure-at_step =
       nets_taken-unaltered v w (λ e. e.tenure) (λ e c. refl) cs (tenure_taken answers v w)
       ∙ ap (λ b. b || falls_between v w BBSY)
-      (answer_taken-unaltered (λ e. e.tenure) (λ e b. refl) (λ e. refl) (λ e. refl) (λ e. refl) answering m.cycle
-      shown.cycle
-      shown.answer)
+      (answer_taken-unaltered (λ e. e.tenure) (λ e. refl) (λ e. refl) (λ e. refl) (λ e b. refl) answering m.cycle
+      shown.cycle shown.answer)
 
   -- a change of the step lets a chosen line of the backplane fall
   abbrev pub any_falls : (ℕ → Bool) → Bool
@@ -359,47 +318,28 @@ module _ (e : AskedEvents) (m : HandshakeMemory) (v w : Levels) (cs : List Chang
   -- `slot_grant_fall` has happened after the step exactly if it had before, or a slot begins to grant on
   pub slot_grant_fall-at_step : stepped.slot_grant_fall ≡ (e.slot_grant_fall || any_falls is_slot_grant)
   slot_grant_fall-at_step =
-      nets_taken-any v w (λ e. e.slot_grant_fall) (λ c. is_slot_grant c.line && net_falls v w c.line) (λ e c. refl) cs
-      (tenure_taken answers v w)
-      ∙ ap (λ b. b || any_falls is_slot_grant)
-      (answer_taken-unaltered (λ e. e.slot_grant_fall) (λ e b. refl) (λ e. refl) (λ e. refl) (λ e. refl) answering
-      m.cycle
-      shown.cycle shown.answer)
+      at_step-any (λ e. e.slot_grant_fall) (λ c. is_slot_grant c.line && net_falls v w c.line) (λ e c. refl) (λ e. refl)
+      (λ e b. refl) (λ e. refl) (λ e. refl) (λ e. refl)
 
   -- `slot_grant_rise` has happened after the step exactly if it had before, or a slot ends its grant
   pub slot_grant_rise-at_step : stepped.slot_grant_rise ≡ (e.slot_grant_rise || any_rises is_slot_grant)
   slot_grant_rise-at_step =
-      nets_taken-any v w (λ e. e.slot_grant_rise) (λ c. is_slot_grant c.line && net_rises v w c.line) (λ e c. refl) cs
-      (tenure_taken answers v w)
-      ∙ ap (λ b. b || any_rises is_slot_grant)
-      (answer_taken-unaltered (λ e. e.slot_grant_rise) (λ e b. refl) (λ e. refl) (λ e. refl) (λ e. refl) answering
-      m.cycle
-      shown.cycle shown.answer)
+      at_step-any (λ e. e.slot_grant_rise) (λ c. is_slot_grant c.line && net_rises v w c.line) (λ e c. refl) (λ e. refl)
+      (λ e b. refl) (λ e. refl) (λ e. refl) (λ e. refl)
 
   -- `arbiter_fall` has happened after the step exactly if it had before, or the arbiter grants
   pub arbiter_fall-at_step : stepped.arbiter_fall ≡ (e.arbiter_fall || any_falls is_arbiter_grant)
   arbiter_fall-at_step =
-      nets_taken-any v w (λ e. e.arbiter_fall) (λ c. is_arbiter_grant c.line && net_falls v w c.line) (λ e c. refl) cs
-      (tenure_taken answers v w)
-      ∙ ap (λ b. b || any_falls is_arbiter_grant)
-      (answer_taken-unaltered (λ e. e.arbiter_fall) (λ e b. refl) (λ e. refl) (λ e. refl) (λ e. refl) answering m.cycle
-      shown.cycle
-      shown.answer)
+      at_step-any (λ e. e.arbiter_fall) (λ c. is_arbiter_grant c.line && net_falls v w c.line) (λ e c. refl) (λ e. refl)
+      (λ e b. refl) (λ e. refl) (λ e. refl) (λ e. refl)
 
   -- `acknowledge_fall` has happened after the step exactly if it had before, or a slot acknowledges on
   pub acknowledge_fall-at_step : stepped.acknowledge_fall ≡ (e.acknowledge_fall || any_falls is_slot_iack)
   acknowledge_fall-at_step =
-      nets_taken-any v w (λ e. e.acknowledge_fall) (λ c. is_slot_iack c.line && net_falls v w c.line) (λ e c. refl) cs
-      (tenure_taken answers v w)
-      ∙ ap (λ b. b || any_falls is_slot_iack)
-      (answer_taken-unaltered (λ e. e.acknowledge_fall) (λ e b. refl) (λ e. refl) (λ e. refl) (λ e. refl) answering
-      m.cycle
-      shown.cycle shown.answer)
+      at_step-any (λ e. e.acknowledge_fall) (λ c. is_slot_iack c.line && net_falls v w c.line) (λ e c. refl) (λ e. refl)
+      (λ e b. refl) (λ e. refl) (λ e. refl) (λ e. refl)
 
   -- `stretch` has happened after the step exactly if it had before
   pub stretch-at_step : stepped.stretch ≡ e.stretch
   stretch-at_step =
-      nets_taken-unaltered v w (λ e. e.stretch) (λ e c. refl) cs (tenure_taken answers v w)
-      ∙ answer_taken-unaltered (λ e. e.stretch) (λ e b. refl) (λ e. refl) (λ e. refl) (λ e. refl) answering m.cycle
-      shown.cycle
-      shown.answer
+      at_step-unaltered (λ e. e.stretch) (λ e c. refl) (λ e. refl) (λ e b. refl) (λ e. refl) (λ e. refl) (λ e. refl)
