@@ -1,12 +1,12 @@
 -- The events of a step to a judged instant, as the audit notes them by what the step shows, are those that the
 -- definitions see at that instant.
-use Rattle.std.proofs.Common.{◌≡◌, ℕ, suc, ◌<◌, ◌≤◌, Bool, true, false, not, ◌&&◌, ◌||◌, List, [], ◌∷◌, length}
+use Rattle.std.proofs.Common.{◌≡◌, ℕ, suc, ◌<◌, ◌≤◌, Bool, true, false, not, ◌&&◌, ◌||◌, List, length}
 use Rattle.std.proofs.Common.{refl}
 use Rattle.std.proofs.Common.{sym, ◌∙◌, ap, cond, Option, None, Some}
 use Rattle.std.specs.Prelude.{is_some, slice_get}
 use Rattle.std.specs.Option.{option_map, option_map_or}
 use Rattle.std.proofs.Math.Bool.{and_comm, or-false}
-use Rattle.vme_trace.specs.Cycles.{answers_of, class_at, cycle_of, cycle_starts, in_cycle}
+use Rattle.vme_trace.specs.Cycles.{answers_of, class_at, cycle_starts, in_cycle}
 use Rattle.vme_trace.specs.Edges.{answer_between, falls_between, rises_between, starts_between, strobe_falls_between}
 use Rattle.vme_trace.specs.Edges.{strobe_rises_between}
 use Rattle.vme_trace.specs.Instants.{any}
@@ -19,7 +19,7 @@ use Rattle.vme_trace.specs.Rules.{is_block_class, is_interrupt, has_earlier_answ
 use Rattle.vme_trace.specs.Signals.{falls, low, rises}
 use Rattle.vme_trace.specs.Tenures.{grant_falls, tenure_starts}
 use Rattle.vme_trace.specs.Trace.{Trace, changed}
-use Rattle.vme_trace.specs.Transfers.{answer_falls, answers_write, is_answer, is_write, strobe_falls}
+use Rattle.vme_trace.specs.Transfers.{answer_falls, is_answer, is_write, strobe_falls}
 use Rattle.vme_trace.specs.Transfers.{strobe_rises}
 use Rattle.vme_trace.specs.Transfers.{transfer_starts}
 use Rattle.vme_trace.specs.WellFormed.{malformed_step}
@@ -47,8 +47,7 @@ use Rattle.vme_dtb.specs.declared.edges.Edges.{Edges}
 use Rattle.vme_dtb.specs.declared.memory.HandshakeMemory.{HandshakeMemory}
 use Rattle.vme_dtb.proofs.CycleBreaks.{cycle_starts-between, cycle_before-here}
 use Rattle.vme_dtb.proofs.CycleMemory.{cycle_before, in_interrupt_acknowledge, in_answered_interrupt_acknowledge}
-use Rattle.vme_dtb.proofs.CycleMemory.{phase_by_answers}
-use Rattle.vme_dtb.proofs.CycleMemory.{phase_of_cycle}
+use Rattle.vme_dtb.proofs.CycleMemory.{in_cycle-phase, is-phase_by_answers, phase_by_answers}
 use Rattle.vme_dtb.proofs.HandshakeBreaks.{is_answer-unanswered}
 use Rattle.vme_dtb.proofs.HandshakeMeaning.{Holds}
 use Rattle.vme_dtb.proofs.OpenState.{in_transfer-is_within}
@@ -174,72 +173,33 @@ module _ (t : Trace) (stretch : Stretch) where
   is_single_answered-of_answers : (c : Class) (rs : List ℕ) → (is_single c && has_earlier_answer rs)
       ≡ is_single_answered
       (phase_by_answers t stretch c rs)
-  is_single_answered-of_answers class.S [] = refl
-  is_single_answered-of_answers class.S (r ∷ []) = by_write (answers_write t stretch r)
-    where
-      by_write : (b : Bool) → true ≡ is_single_answered (cond b SingleDone SingleRead)
-      by_write true = refl
-      by_write false = refl
-  is_single_answered-of_answers class.S (r ∷ q ∷ rs) = refl
-  is_single_answered-of_answers class.K [] = refl
-  is_single_answered-of_answers class.K (r ∷ rs) = by_write (answers_write t stretch r)
-    where
-      by_write : (b : Bool) → false ≡ is_single_answered (cond b BlockWriting BlockReading)
-      by_write true = refl
-      by_write false = refl
-  is_single_answered-of_answers class.I [] = refl
-  is_single_answered-of_answers class.I (r ∷ rs) = refl
-  is_single_answered-of_answers class.F rs = refl
+  is_single_answered-of_answers =
+      is-phase_by_answers t stretch (λ c rs. is_single c && has_earlier_answer rs) is_single_answered (λ rs. refl) refl
+      (λ r. refl) (λ r rs. refl) refl (λ r rs. refl) (λ r rs. refl) refl (λ r rs. refl)
 
   -- a cycle of class `c` with the answers `rs` is a block transfer and has an answer exactly if its phase says so
   is_block_answered-of_answers : (c : Class) (rs : List ℕ) → (is_block_class c && has_earlier_answer rs)
       ≡ is_block_answered (phase_by_answers t stretch c rs)
-  is_block_answered-of_answers class.S [] = refl
-  is_block_answered-of_answers class.S (r ∷ []) = by_write (answers_write t stretch r)
-    where
-      by_write : (b : Bool) → false ≡ is_block_answered (cond b SingleDone SingleRead)
-      by_write true = refl
-      by_write false = refl
-  is_block_answered-of_answers class.S (r ∷ q ∷ rs) = refl
-  is_block_answered-of_answers class.K [] = refl
-  is_block_answered-of_answers class.K (r ∷ rs) = by_write (answers_write t stretch r)
-    where
-      by_write : (b : Bool) → true ≡ is_block_answered (cond b BlockWriting BlockReading)
-      by_write true = refl
-      by_write false = refl
-  is_block_answered-of_answers class.I [] = refl
-  is_block_answered-of_answers class.I (r ∷ rs) = refl
-  is_block_answered-of_answers class.F rs = refl
+  is_block_answered-of_answers =
+      is-phase_by_answers t stretch (λ c rs. is_block_class c && has_earlier_answer rs) is_block_answered (λ rs. refl)
+      refl (λ r. refl) (λ r rs. refl) refl (λ r rs. refl) (λ r rs. refl) refl (λ r rs. refl)
 
   -- the cycle at instant j is single and has an answer before j exactly if its phase before j says so
   in_cycle-single_answered : (j : ℕ) → in_cycle t stretch (λ i. is_single (class_at t i) && has_earlier_answer
       (answers_of t stretch i j)) j
       ≡ is_single_answered (cycle_before t stretch j)
-  unfolding in_cycle
-  in_cycle-single_answered j = by_cycle (cycle_of t stretch j)
-    where
-      by_cycle : (o : Option ℕ)
-          → option_map_or (λ i. is_single (class_at t i) && has_earlier_answer (answers_of t stretch i j)) o
-          false
-          ≡ is_single_answered (phase_of_cycle t stretch o j)
-      by_cycle None = refl
-      by_cycle (Some i) = is_single_answered-of_answers (class_at t i) (answers_of t stretch i j)
+  in_cycle-single_answered =
+      in_cycle-phase t stretch (λ c rs. is_single c && has_earlier_answer rs) is_single_answered refl
+      is_single_answered-of_answers
 
   -- the cycle at instant j is a block transfer and has an answer before j exactly if its phase before j says so
   in_cycle-block_answered : (j : ℕ)
       → in_cycle t stretch (λ i. is_block_class (class_at t i) && has_earlier_answer
       (answers_of t stretch i j)) j
       ≡ is_block_answered (cycle_before t stretch j)
-  unfolding in_cycle
-  in_cycle-block_answered j = by_cycle (cycle_of t stretch j)
-    where
-      by_cycle : (o : Option ℕ)
-          → option_map_or (λ i. is_block_class (class_at t i) && has_earlier_answer (answers_of t stretch i j))
-          o
-          false
-          ≡ is_block_answered (phase_of_cycle t stretch o j)
-      by_cycle None = refl
-      by_cycle (Some i) = is_block_answered-of_answers (class_at t i) (answers_of t stretch i j)
+  in_cycle-block_answered =
+      in_cycle-phase t stretch (λ c rs. is_block_class c && has_earlier_answer rs) is_block_answered refl
+      is_block_answered-of_answers
 
 -- the step from instant n to n + 1, both in the stretch, in a well-formed recording; `m` is the memory of the handshake
 -- monitor at n

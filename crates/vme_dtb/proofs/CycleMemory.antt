@@ -198,92 +198,85 @@ module _ (t : Trace) (stretch : Stretch) where
   changes_direction-phase class.I (r ∷ rs) j = refl
   changes_direction-phase class.F rs j = refl
 
+  -- a test `f` of the class and the answers of a cycle is the test `is` of the cycle's phase, if it is for each phase
+  pub is-phase_by_answers : (f : Class → List ℕ → Bool) (is : CyclePhase → Bool)
+      → ((rs : List ℕ) → f class.F rs ≡ is Free) → f class.S [] ≡ is Single
+      → ((r : ℕ) → f class.S (r ∷ []) ≡ is SingleRead) → ((r : ℕ) (rs : List ℕ) → f class.S (r ∷ rs) ≡ is SingleDone)
+      → f class.K [] ≡ is Block → ((r : ℕ) (rs : List ℕ) → f class.K (r ∷ rs) ≡ is BlockReading)
+      → ((r : ℕ) (rs : List ℕ) → f class.K (r ∷ rs) ≡ is BlockWriting) → f class.I [] ≡ is Interrupt
+      → ((r : ℕ) (rs : List ℕ) → f class.I (r ∷ rs) ≡ is InterruptDone)
+      → (c : Class) (rs : List ℕ) → f c rs ≡ is (phase_by_answers c rs)
+  is-phase_by_answers f is free single read done block reading writing started ended class.F rs = free rs
+  is-phase_by_answers f is free single read done block reading writing started ended class.S [] = single
+  is-phase_by_answers f is free single read done block reading writing started ended class.S (r ∷ []) =
+      by_write (answers_write t stretch r)
+    where
+      by_write : (b : Bool) → f class.S (r ∷ []) ≡ is (cond b SingleDone SingleRead)
+      by_write true = done r []
+      by_write false = read r
+  is-phase_by_answers f is free single read done block reading writing started ended class.S (r ∷ q ∷ rs) =
+      done r (q ∷ rs)
+  is-phase_by_answers f is free single read done block reading writing started ended class.K [] = block
+  is-phase_by_answers f is free single read done block reading writing started ended class.K (r ∷ rs) =
+      by_write (answers_write t stretch r)
+    where
+      by_write : (b : Bool) → f class.K (r ∷ rs) ≡ is (cond b BlockWriting BlockReading)
+      by_write true = writing r rs
+      by_write false = reading r rs
+  is-phase_by_answers f is free single read done block reading writing started ended class.I [] = started
+  is-phase_by_answers f is free single read done block reading writing started ended class.I (r ∷ rs) = ended r rs
+
+  -- the same of the test on the cycle at j, by its answers before j
+  pub in_cycle-phase : (f : Class → List ℕ → Bool) (is : CyclePhase → Bool) → false ≡ is Free
+      → ((c : Class) (rs : List ℕ) → f c rs ≡ is (phase_by_answers c rs))
+      → (j : ℕ) → in_cycle t stretch (λ i. f (class_at t i) (answers_of t stretch i j)) j ≡ is (cycle_before j)
+  unfolding in_cycle
+  in_cycle-phase f is none law j = by_cycle (cycle_of t stretch j)
+    where
+      by_cycle : (o : Option ℕ) → option_map_or (λ i. f (class_at t i) (answers_of t stretch i j)) o false
+          ≡ is (phase_of_cycle o j)
+      by_cycle None = none
+      by_cycle (Some i) = law (class_at t i) (answers_of t stretch i j)
+
   -- whether a cycle is an interrupt acknowledge, by its phase
   is_interrupt-phase : (c : Class) (rs : List ℕ) → is_interrupt c ≡ is_interrupt_acknowledge (phase_by_answers c rs)
-  is_interrupt-phase class.S [] = refl
-  is_interrupt-phase class.S (r ∷ []) = by_write (answers_write t stretch r)
-    where
-      by_write : (a : Bool) → false ≡ is_interrupt_acknowledge (cond a SingleDone SingleRead)
-      by_write true = refl
-      by_write false = refl
-  is_interrupt-phase class.S (r ∷ q ∷ rs) = refl
-  is_interrupt-phase class.K [] = refl
-  is_interrupt-phase class.K (r ∷ rs) = by_write (answers_write t stretch r)
-    where
-      by_write : (a : Bool) → false ≡ is_interrupt_acknowledge (cond a BlockWriting BlockReading)
-      by_write true = refl
-      by_write false = refl
-  is_interrupt-phase class.I [] = refl
-  is_interrupt-phase class.I (r ∷ rs) = refl
-  is_interrupt-phase class.F rs = refl
+  is_interrupt-phase =
+      is-phase_by_answers (λ c rs. is_interrupt c) is_interrupt_acknowledge (λ rs. refl) refl (λ r. refl) (λ r rs. refl)
+      refl (λ r rs. refl) (λ r rs. refl) refl (λ r rs. refl)
 
   -- whether a cycle is an interrupt acknowledge with an answer, by its phase
   has_earlier_answer-phase : (c : Class) (rs : List ℕ) → (is_interrupt c && has_earlier_answer rs)
       ≡ is_answered_interrupt_acknowledge (phase_by_answers c rs)
-  has_earlier_answer-phase class.S [] = refl
-  has_earlier_answer-phase class.S (r ∷ []) = by_write (answers_write t stretch r)
-    where
-      by_write : (a : Bool) → false ≡ is_answered_interrupt_acknowledge (cond a SingleDone SingleRead)
-      by_write true = refl
-      by_write false = refl
-  has_earlier_answer-phase class.S (r ∷ q ∷ rs) = refl
-  has_earlier_answer-phase class.K [] = refl
-  has_earlier_answer-phase class.K (r ∷ rs) = by_write (answers_write t stretch r)
-    where
-      by_write : (a : Bool) → false ≡ is_answered_interrupt_acknowledge (cond a BlockWriting BlockReading)
-      by_write true = refl
-      by_write false = refl
-  has_earlier_answer-phase class.I [] = refl
-  has_earlier_answer-phase class.I (r ∷ rs) = refl
-  has_earlier_answer-phase class.F rs = refl
+  has_earlier_answer-phase =
+      is-phase_by_answers (λ c rs. is_interrupt c && has_earlier_answer rs) is_answered_interrupt_acknowledge
+      (λ rs. refl) refl (λ r. refl) (λ r rs. refl) refl (λ r rs. refl) (λ r rs. refl) refl (λ r rs. refl)
 
   -- the test of C1 on a cycle is the one of its phase
   pub in_broken_read_modify_write : (j : ℕ) → in_cycle t stretch (λ i. is_single (class_at t i)
       && breaks_read_modify_write t stretch
       (answers_of t stretch i j) j) j ≡ is_read_modify_write_broken (cycle_before j) (answers_write t stretch j)
-  unfolding in_cycle
-  in_broken_read_modify_write j = by_cycle (cycle_of t stretch j)
-    where
-      by_cycle : (o : Option ℕ) → option_map_or (λ i. is_single (class_at t i)
-          && breaks_read_modify_write t stretch
-          (answers_of t stretch i j) j) o false ≡ is_read_modify_write_broken (phase_of_cycle o j)
-          (answers_write t stretch j)
-      by_cycle None = refl
-      by_cycle (Some i) = breaks_read_modify_write-phase (class_at t i) (answers_of t stretch i j) j
+  in_broken_read_modify_write j =
+      in_cycle-phase (λ c rs. is_single c && breaks_read_modify_write t stretch rs j)
+      (λ p. is_read_modify_write_broken p (answers_write t stretch j)) refl
+      (λ c rs. breaks_read_modify_write-phase c rs j) j
 
   -- the test of C2 on a cycle is the one of its phase
   pub in_changed_direction : (j : ℕ) → in_cycle t stretch (λ i. is_block_class (class_at t i)
       && changes_direction t stretch (answers_of t stretch i j) j) j ≡ is_direction_changed (cycle_before j)
       (answers_write t stretch j)
-  unfolding in_cycle
-  in_changed_direction j = by_cycle (cycle_of t stretch j)
-    where
-      by_cycle : (o : Option ℕ) → option_map_or (λ i. is_block_class (class_at t i)
-          && changes_direction t stretch (answers_of t stretch i j) j) o false
-          ≡ is_direction_changed (phase_of_cycle o j)
-          (answers_write t stretch j)
-      by_cycle None = refl
-      by_cycle (Some i) = changes_direction-phase (class_at t i) (answers_of t stretch i j) j
+  in_changed_direction j =
+      in_cycle-phase (λ c rs. is_block_class c && changes_direction t stretch rs j)
+      (λ p. is_direction_changed p (answers_write t stretch j)) refl (λ c rs. changes_direction-phase c rs j) j
 
   -- the test of I4 on a cycle is the one of its phase
   pub in_interrupt_acknowledge : (j : ℕ) → in_cycle t stretch (λ i. is_interrupt (class_at t i)) j
       ≡ is_interrupt_acknowledge (cycle_before j)
-  unfolding in_cycle
-  in_interrupt_acknowledge j = by_cycle (cycle_of t stretch j)
-    where
-      by_cycle : (o : Option ℕ) → option_map_or (λ i. is_interrupt (class_at t i)) o false
-          ≡ is_interrupt_acknowledge (phase_of_cycle o j)
-      by_cycle None = refl
-      by_cycle (Some i) = is_interrupt-phase (class_at t i) (answers_of t stretch i j)
+  in_interrupt_acknowledge =
+      in_cycle-phase (λ c rs. is_interrupt c) is_interrupt_acknowledge refl is_interrupt-phase
 
   -- the test of I5 on a cycle is the one of its phase
   pub in_answered_interrupt_acknowledge : (j : ℕ) → in_cycle t stretch (λ i. is_interrupt (class_at t i)
       && has_earlier_answer (answers_of t stretch i j)) j ≡ is_answered_interrupt_acknowledge (cycle_before j)
-  unfolding in_cycle
-  in_answered_interrupt_acknowledge j = by_cycle (cycle_of t stretch j)
-    where
-      by_cycle : (o : Option ℕ) → option_map_or (λ i. is_interrupt (class_at t i)
-          && has_earlier_answer (answers_of t stretch i j)) o false
-          ≡ is_answered_interrupt_acknowledge (phase_of_cycle o j)
-      by_cycle None = refl
-      by_cycle (Some i) = has_earlier_answer-phase (class_at t i) (answers_of t stretch i j)
+  in_answered_interrupt_acknowledge =
+      in_cycle-phase (λ c rs. is_interrupt c && has_earlier_answer rs) is_answered_interrupt_acknowledge refl
+      has_earlier_answer-phase
