@@ -41,8 +41,6 @@ use Rattle.vme_dtb.specs.CycleState.{unanswered_of}
 use Rattle.vme_dtb.specs.Edge.{cycle_start_of, edges_between}
 use Rattle.vme_dtb.specs.Machine.{answer_in, dtb_next}
 use Rattle.vme_dtb.specs.declared.cycle.CyclePhase.{CyclePhase}
-use Rattle.vme_dtb.specs.declared.cycle.CyclePhase.TheVariants.{Block, BlockReading, BlockWriting, Free, Interrupt}
-use Rattle.vme_dtb.specs.declared.cycle.CyclePhase.TheVariants.{InterruptDone, Single, SingleDone, SingleRead}
 use Rattle.vme_dtb.specs.declared.edges.Edges.{Edges}
 use Rattle.vme_dtb.specs.declared.memory.HandshakeMemory.{HandshakeMemory}
 use Rattle.vme_dtb.proofs.CycleBreaks.{cycle_starts-between, cycle_before-here}
@@ -57,10 +55,9 @@ use Rattle.vme_audit.specs.AskedRules.{answered_in_class, event_happens, happens
 use Rattle.vme_audit.specs.AskedRules.{write_starts}
 use Rattle.vme_audit.specs.Event.{Event, event_of}
 use Rattle.vme_audit.specs.Event as event
-use Rattle.vme_auditor.specs.Events.{asks_by, at_step, has_happened, is_interrupt_cycle, is_interrupt_entered}
+use Rattle.vme_auditor.specs.Events.{asks_by, at_step, has_happened, is_interrupt_entered}
 use Rattle.vme_auditor.specs.declared.asked.AskedEvents.{AskedEvents}
 use Rattle.vme_auditor.proofs.EventFields.{any_falls, any_rises, answers_again, is_block_answered}
-use Rattle.vme_auditor.proofs.EventFields.{is_interrupt_answered}
 use Rattle.vme_auditor.proofs.EventFields.{is_single_answered, acknowledge_fall-at_step, answer-at_step}
 use Rattle.vme_auditor.proofs.EventFields.{answer_fall-at_step}
 use Rattle.vme_auditor.proofs.EventFields.{answer_rise-at_step, arbiter_fall-at_step, block_again-at_step}
@@ -123,11 +120,12 @@ is_block_answered-unanswered class.I = refl
 is_block_answered-unanswered class.F = refl
 
 -- a cycle without an answer is no interrupt acknowledge with one
-is_interrupt_answered-unanswered : (k : Class) → is_interrupt_answered (unanswered_of k) ≡ false
-is_interrupt_answered-unanswered class.S = refl
-is_interrupt_answered-unanswered class.K = refl
-is_interrupt_answered-unanswered class.I = refl
-is_interrupt_answered-unanswered class.F = refl
+is_answered_interrupt_acknowledge-unanswered : (k : Class)
+    → is_answered_interrupt_acknowledge (unanswered_of k) ≡ false
+is_answered_interrupt_acknowledge-unanswered class.S = refl
+is_answered_interrupt_acknowledge-unanswered class.K = refl
+is_answered_interrupt_acknowledge-unanswered class.I = refl
+is_answered_interrupt_acknowledge-unanswered class.F = refl
 
 -- a class is that of an interrupt acknowledge exactly if its cycle without an answer is one
 is_interrupt-unanswered : (k : Class) → is_interrupt k ≡ is_interrupt_acknowledge (unanswered_of k)
@@ -136,37 +134,12 @@ is_interrupt-unanswered class.K = refl
 is_interrupt-unanswered class.I = refl
 is_interrupt-unanswered class.F = refl
 
--- the auditor's test for an interrupt acknowledge is that of vme_dtb
-is_interrupt_cycle-acknowledge : (c : CyclePhase) → is_interrupt_cycle c ≡ is_interrupt_acknowledge c
-is_interrupt_cycle-acknowledge Free = refl
-is_interrupt_cycle-acknowledge Single = refl
-is_interrupt_cycle-acknowledge SingleRead = refl
-is_interrupt_cycle-acknowledge SingleDone = refl
-is_interrupt_cycle-acknowledge Block = refl
-is_interrupt_cycle-acknowledge BlockReading = refl
-is_interrupt_cycle-acknowledge BlockWriting = refl
-is_interrupt_cycle-acknowledge Interrupt = refl
-is_interrupt_cycle-acknowledge InterruptDone = refl
-
 -- the cycle after a step, of which `s` is the start if one starts, is an interrupt acknowledge by both tests, or by
 -- none
 is_interrupt_entered-acknowledge : (c : CyclePhase) (s : Option CycleStart) → is_interrupt_entered c s
-    ≡ is_interrupt_acknowledge
-    (cycle_entered c s)
-is_interrupt_entered-acknowledge c None = is_interrupt_cycle-acknowledge c
+    ≡ is_interrupt_acknowledge (cycle_entered c s)
+is_interrupt_entered-acknowledge c None = refl
 is_interrupt_entered-acknowledge c (Some s) = is_interrupt-unanswered s.class
-
--- the auditor's test for an interrupt acknowledge with an answer is that of vme_dtb
-is_interrupt_answered-acknowledge : (c : CyclePhase) → is_answered_interrupt_acknowledge c ≡ is_interrupt_answered c
-is_interrupt_answered-acknowledge Free = refl
-is_interrupt_answered-acknowledge Single = refl
-is_interrupt_answered-acknowledge SingleRead = refl
-is_interrupt_answered-acknowledge SingleDone = refl
-is_interrupt_answered-acknowledge Block = refl
-is_interrupt_answered-acknowledge BlockReading = refl
-is_interrupt_answered-acknowledge BlockWriting = refl
-is_interrupt_answered-acknowledge Interrupt = refl
-is_interrupt_answered-acknowledge InterruptDone = refl
 
 module _ (t : Trace) (stretch : Stretch) where
   -- a cycle of class `c` with the answers `rs` is single and has an answer exactly if its phase says so
@@ -398,9 +371,8 @@ module _ (t : Trace) (ok : malformed_step t ≡ None) (few : t.opening.slots ≤
         or-equal_right _ _ _ _ (interrupt-at_step e m v w cs shown) interrupt_event
     has_happened-after_step event.interrupt_again =
         or-equal_right _ _ _ _ (interrupt_again-at_step e m v w cs shown)
-        (again_event is_interrupt_answered is_interrupt is_interrupt_answered-unanswered
-        (in_answered_interrupt_acknowledge t stretch (suc n)
-        ∙ is_interrupt_answered-acknowledge (cycle_before t stretch (suc n))))
+        (again_event is_answered_interrupt_acknowledge is_interrupt is_answered_interrupt_acknowledge-unanswered
+        (in_answered_interrupt_acknowledge t stretch (suc n)))
     has_happened-after_step event.slot_grant_fall =
         or-equal_right _ _ _ _ (slot_grant_fall-at_step e m v w cs shown) (any_falls-at is_slot_grant e)
     has_happened-after_step event.slot_grant_rise =

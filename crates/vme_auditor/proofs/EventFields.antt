@@ -15,6 +15,7 @@ use Rattle.vme_monitor.specs.Tracking.{is_within}
 use Rattle.vme_monitor.specs.declared.mark.CycleStart.{CycleStart}
 use Rattle.vme_monitor.specs.declared.mark.StepMarks.{StepMarks}
 use Rattle.vme_monitor.specs.declared.mark.TransferAnswer.{TransferAnswer}
+use Rattle.vme_dtb.specs.CycleState.{is_answered_interrupt_acknowledge}
 use Rattle.vme_dtb.specs.declared.cycle.CyclePhase.{CyclePhase}
 use Rattle.vme_dtb.specs.declared.cycle.CyclePhase.TheVariants.{Block, BlockReading, BlockWriting, Free, Interrupt}
 use Rattle.vme_dtb.specs.declared.cycle.CyclePhase.TheVariants.{InterruptDone, Single, SingleDone, SingleRead}
@@ -79,11 +80,6 @@ is_block_answered BlockReading = true
 is_block_answered BlockWriting = true
 is_block_answered c = false
 
--- the cycle is an interrupt acknowledge and had an answer
-abbrev pub is_interrupt_answered : CyclePhase → Bool
-is_interrupt_answered InterruptDone = true
-is_interrupt_answered c = false
-
 -- there is an answer, no cycle starts at the step, and `is` holds of the cycle
 abbrev pub answers_again : (CyclePhase → Bool) → CyclePhase → Option CycleStart → Option TransferAnswer → Bool
 answers_again is cycle starts answer = is_some answer && (not (is_some starts) && is cycle)
@@ -118,7 +114,7 @@ block_again-further_taken e InterruptDone = sym (or-false e.block_again)
 -- after a further answer `interrupt_again` has happened exactly if it had before, or the cycle is an interrupt
 -- acknowledge and had an answer
 interrupt_again-further_taken : (e : AskedEvents) (cycle : CyclePhase) → (further_taken e cycle).interrupt_again
-    ≡ (e.interrupt_again || is_interrupt_answered cycle)
+    ≡ (e.interrupt_again || is_answered_interrupt_acknowledge cycle)
 interrupt_again-further_taken e Free = sym (or-false e.interrupt_again)
 interrupt_again-further_taken e Single = sym (or-false e.interrupt_again)
 interrupt_again-further_taken e SingleRead = sym (or-false e.interrupt_again)
@@ -293,11 +289,11 @@ module _ (e : AskedEvents) (m : HandshakeMemory) (v w : Levels) (cs : List Chang
   -- `interrupt_again` has happened after the step exactly if it had before, or a further transfer of an interrupt
   -- acknowledge is answered
   pub interrupt_again-at_step : stepped.interrupt_again
-      ≡ (e.interrupt_again || answers_again is_interrupt_answered m.cycle shown.cycle shown.answer)
+      ≡ (e.interrupt_again || answers_again is_answered_interrupt_acknowledge m.cycle shown.cycle shown.answer)
   interrupt_again-at_step =
       nets_taken-unaltered v w (λ e. e.interrupt_again) (λ e c. refl) cs (tenure_taken answers v w)
-      ∙ again-answer_taken (λ e. e.interrupt_again) is_interrupt_answered (λ e b. refl) interrupt_again-further_taken
-      m.cycle answering shown.cycle shown.answer
+      ∙ again-answer_taken (λ e. e.interrupt_again) is_answered_interrupt_acknowledge (λ e b. refl)
+      interrupt_again-further_taken m.cycle answering shown.cycle shown.answer
 
   -- `tenure` has happened after the step exactly if it had before, or BBSY falls
   pub tenure-at_step : stepped.tenure ≡ (e.tenure || falls_between v w BBSY)

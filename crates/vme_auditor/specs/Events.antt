@@ -15,9 +15,10 @@ use Rattle.vme_monitor.specs.declared.mark.CycleStart.{CycleStart}
 use Rattle.vme_monitor.specs.declared.mark.StepMarks.{StepMarks}
 use Rattle.vme_monitor.specs.declared.mark.TransferAnswer.{TransferAnswer}
 use Rattle.vme_monitor.specs.declared.tracking.TransferPhase.{TransferPhase}
+use Rattle.vme_dtb.specs.CycleState.{is_interrupt_acknowledge}
 use Rattle.vme_dtb.specs.declared.cycle.CyclePhase.{CyclePhase}
 use Rattle.vme_dtb.specs.declared.cycle.CyclePhase.TheVariants.{SingleRead, SingleDone, BlockReading, BlockWriting}
-use Rattle.vme_dtb.specs.declared.cycle.CyclePhase.TheVariants.{Interrupt, InterruptDone}
+use Rattle.vme_dtb.specs.declared.cycle.CyclePhase.TheVariants.{InterruptDone}
 use Rattle.vme_dtb.specs.declared.memory.HandshakeMemory.{HandshakeMemory}
 use Rattle.vme_audit.specs.Event.{Event, event_of}
 use Rattle.vme_audit.specs.Event as event
@@ -75,15 +76,9 @@ has_happened e event.acknowledge_fall = e.acknowledge_fall
 abbrev pub asks_by : AskedEvents → Rule → Bool
 asks_by e r = has_happened e (event_of r)
 
--- whether the cycle is an interrupt acknowledge
-abbrev pub is_interrupt_cycle : CyclePhase → Bool
-is_interrupt_cycle Interrupt = true
-is_interrupt_cycle InterruptDone = true
-is_interrupt_cycle cycle = false
-
 -- whether the cycle after a step is an interrupt acknowledge: the one that starts, or else the one before
 abbrev pub is_interrupt_entered : CyclePhase → Option CycleStart → Bool
-is_interrupt_entered cycle None = is_interrupt_cycle cycle
+is_interrupt_entered cycle None = is_interrupt_acknowledge cycle
 is_interrupt_entered cycle (Some start) = is_interrupt start.class
 
 -- a net that the backplane has falls
