@@ -4,6 +4,7 @@ use Rattle.std.proofs.Common.{arith, cond, length, subst, inl, inr, ◌⊎◌, O
 use Rattle.std.specs.Prelude.{option_map, slice_get}
 use Rattle.std.specs.Option.{is_some, option_or, option_map_or}
 use Rattle.std.proofs.lemmas.Bool.{or_parts, le-ltb}
+use Rattle.vme_trace.specs.Changes.{first_changed}
 use Rattle.vme_trace.specs.Instants.{least}
 use Rattle.vme_trace.specs.LineNumbers.{line_count}
 use Rattle.vme_trace.specs.Levels.{Levels}
@@ -13,6 +14,7 @@ use Rattle.vme_trace.specs.Judged.{Stretch}
 use Rattle.vme_trace.specs.Verdict.{break_at, rule_break}
 use Rattle.vme_trace.specs.declared.rule.Rule.TheVariants.{I1, I2, I3}
 use Rattle.vme_trace.specs.declared.step.Change.{Change}
+use Rattle.vme_trace.proofs.Changing.{first_changed-least}
 use Rattle.vme_trace.proofs.StretchEnds.{slots_at}
 use Rattle.vme_monitor.specs.Along.{changes_of, next_at, memory_from}
 use Rattle.vme_monitor.specs.Run.{break_of_fault, machine_step, run_of, no_end_fault, no_start_marks, no_step_marks}
@@ -24,12 +26,12 @@ use Rattle.vme_monitor.proofs.StretchFacts.{IsStretch}
 use Rattle.vme_monitor.proofs.Alongside.{levels_at-step, are_changes-step, memory_from-before}
 use Rattle.vme_chains.specs.AcknowledgeRules.{acknowledge_begin, acknowledge_next, acknowledge_rules, acknowledge_shown}
 use Rattle.vme_chains.specs.AcknowledgeRules.{acknowledge_observation, fault_among, fault_on, changes_memory}
-use Rattle.vme_chains.specs.AcknowledgeRules.{first_changed, memory_after, passes_on, passes_unasked, is_strobed}
+use Rattle.vme_chains.specs.AcknowledgeRules.{memory_after, passes_on, passes_unasked, is_strobed}
 use Rattle.vme_chains.specs.AcknowledgeRules.{is_addressed}
 use Rattle.vme_chains.specs.declared.acknowledge.AcknowledgeMemory.{AcknowledgeMemory}
 use Rattle.vme_chains.specs.declared.acknowledge.PassingSlots.{PassingSlots}
 use Rattle.vme_chains.proofs.AcknowledgeBreaks.{least-I1, least-I2, least-I3}
-use Rattle.vme_chains.proofs.AcknowledgeChanges.{first_changed-least, is_some-none, passes_on-unchanged}
+use Rattle.vme_chains.proofs.AcknowledgeChanges.{is_some-none, passes_on-unchanged}
 use Rattle.vme_chains.proofs.AcknowledgeChanges.{passes_unasked-none, passes_unasked-unchanged}
 use Rattle.vme_chains.proofs.AcknowledgeMeaning.{Holds, Holds-start, Holds-next, memory_after-unchanged}
 

@@ -3,6 +3,7 @@ use Rattle.std.proofs.Common.{◌≡◌, ℕ, suc, ◌+◌, ◌<◌, ◌≤◌, 
 use Rattle.std.proofs.Common.{None, cond}
 use Rattle.std.specs.Prelude.{option_map}
 use Rattle.std.specs.Option.{option_or}
+use Rattle.vme_trace.specs.Changes.{first_changed}
 use Rattle.vme_trace.specs.Instants.{least}
 use Rattle.vme_trace.specs.LineNumbers.{line_count, AS, BBSY, grant}
 use Rattle.vme_trace.specs.Levels.{Levels}
@@ -16,7 +17,7 @@ use Rattle.vme_trace.specs.declared.rule.Rule.TheVariants.{G1, G2, G3, G4, G5, B
 use Rattle.vme_trace.specs.declared.step.Change.{Change}
 use Rattle.vme_trace.specs.declared.verdict.Break.{Break}
 use Rattle.vme_monitor.specs.Run.{break_of_fault}
-use Rattle.vme_chains.specs.GrantLevels.{falls_between, first_changed, is_net_broken, grant_begins, requested_in}
+use Rattle.vme_chains.specs.GrantLevels.{falls_between, is_net_broken, grant_begins, requested_in}
 use Rattle.vme_chains.specs.GrantLevels.{taken_between, is_ungranted, is_cycle_unowned}
 use Rattle.vme_chains.specs.GrantMemory.{union}
 use Rattle.vme_chains.specs.GrantRules.{grant_rules, fault_on, line_if, unrequested, seen_between, slot_of, step_fault}

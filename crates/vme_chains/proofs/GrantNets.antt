@@ -5,7 +5,7 @@ use Rattle.std.specs.Prelude.{◌==◌}
 use Rattle.vme_trace.specs.Instants.{any, least}
 use Rattle.vme_trace.specs.LineNumbers.{line_count, BBSY, grant, has_line, is_grant, is_slot_grant, is_arbiter_grant}
 use Rattle.vme_trace.specs.LineNumbers.{input_of}
-use Rattle.vme_trace.specs.Changes.{is_changed}
+use Rattle.vme_trace.specs.Changes.{first_changed, is_changed}
 use Rattle.vme_trace.specs.Levels.{Levels, is_low}
 use Rattle.vme_trace.specs.Trace.{Trace, levels_at, changed}
 use Rattle.vme_trace.specs.WellFormed.{are_changes}
@@ -14,12 +14,13 @@ use Rattle.vme_trace.specs.Judged.{Stretch, is_judged}
 use Rattle.vme_trace.specs.Rules.{breaks, is_broken}
 use Rattle.vme_trace.specs.declared.rule.Rule.TheVariants.{G1, G2, G3, G4}
 use Rattle.vme_trace.specs.declared.step.Change.{Change}
+use Rattle.vme_trace.proofs.Changing.{first_changed-least}
 use Rattle.vme_trace.proofs.Ranges.{least-alike}
 use Rattle.vme_trace.proofs.OpenTransfers.{is_judged-holds}
 use Rattle.vme_trace.proofs.StretchEnds.{slots_at}
 use Rattle.vme_chains.specs.GrantLevels.{is_low_in, falls_between, rises_between, low_near, high_near, is_other_granted}
-use Rattle.vme_chains.specs.GrantLevels.{is_net_broken, first_changed}
-use Rattle.vme_chains.proofs.GrantLines.{first_changed-least, shown-unchanged, falls_between-changed_elsewhere}
+use Rattle.vme_chains.specs.GrantLevels.{is_net_broken}
+use Rattle.vme_chains.proofs.GrantLines.{shown-unchanged, falls_between-changed_elsewhere}
 use Rattle.vme_chains.proofs.GrantLines.{rises_between-changed_elsewhere, has_line-input, input_of-slot_grant}
 use Rattle.vme_chains.proofs.GrantEdges.{falls_between-falls, rises_between-rises, falls_between-absent}
 use Rattle.vme_chains.proofs.GrantEdges.{rises_between-absent, low_near-near, high_near-near}
@@ -119,7 +120,7 @@ module _ (t : Trace) (stretch : Stretch) (few : t.opening.slots ≤ 21) (n : ℕ
     -- the first changed line with p is the least line with p, if p fails on unchanged lines
     first_changed-least_line : (p : ℕ → Bool) → ((l : ℕ) → is_changed cs l ≡ false → p l ≡ false) → first_changed p cs
         ≡ least p 0 line_count
-    first_changed-least_line p kept = first_changed-least p old (rw (slots_at t n) few) 0 cs fit kept
+    first_changed-least_line p kept = first_changed-least old p (rw (slots_at t n) few) 0 cs fit kept
 
     -- the least line that breaks G1 is the first changed one that does
     pub least-G1 : least (breaks t stretch G1 (suc n)) 0 line_count ≡ first_changed (is_net_broken G1 old new) cs

@@ -5,7 +5,7 @@ use Rattle.std.specs.Prelude.{◌==◌}
 use Rattle.std.proofs.lemmas.Bool.Decides.{nat_tests}
 use Rattle.std.proofs.lemmas.Bool.{and_left, or_parts, eqb-true}
 use Rattle.vme_trace.specs.LineNumbers.{BBSY, BR, grant, is_grant}
-use Rattle.vme_trace.specs.Changes.{is_changed}
+use Rattle.vme_trace.specs.Changes.{first_changed, is_changed}
 use Rattle.vme_trace.specs.Levels.{Levels}
 use Rattle.vme_trace.specs.Trace.{Trace, levels_at, changed}
 use Rattle.vme_trace.specs.Judged.{Stretch}
@@ -15,7 +15,7 @@ use Rattle.vme_trace.specs.declared.step.Change.{Change}
 use Rattle.vme_trace.proofs.Ranges.{fails-any, clash}
 use Rattle.vme_monitor.specs.declared.mark.Fault.{Fault}
 use Rattle.vme_monitor.specs.declared.mark.BusGrant.{BusGrant}
-use Rattle.vme_chains.specs.GrantLevels.{is_arbitration, touches_arbitration, first_changed, is_net_broken}
+use Rattle.vme_chains.specs.GrantLevels.{is_arbitration, touches_arbitration, is_net_broken}
 use Rattle.vme_chains.specs.GrantLevels.{grant_begins, falls_between, rises_between}
 use Rattle.vme_chains.specs.GrantRules.{nets_fault, step_fault}
 use Rattle.vme_chains.specs.declared.grant_memory.LevelSet.{LevelSet}

@@ -1,11 +1,6 @@
 -- Tests of lines, instants and kinds of lines, shared by the proofs about grants.
-use Rattle.std.proofs.Common.{◌≡◌, ℕ, suc, ◌+◌, ◌<◌, ◌≤◌, Bool, true, false, ◌&&◌, refl, arith, ◌⊎◌}
-use Rattle.std.specs.Prelude.{◌==◌}
+use Rattle.std.proofs.Common.{◌≡◌, ℕ, suc, ◌+◌, ◌≤◌, Bool, true, false, ◌&&◌, refl, arith, ◌⊎◌}
 use Rattle.std.proofs.lemmas.Bool.Decides.{nat_tests}
-
--- a number isn't equal to a lesser one
-pub eqb-greater : (a b : ℕ) → b < a → (a == b) ≡ false
-eqb-greater a b h = grind (arith, nat_tests)
 
 -- a number up to n + 1 is n + 1, or at most n
 pub le-suc_cases : (s n : ℕ) → s ≤ suc n → (s ≡ suc n) ⊎ (s ≤ n)

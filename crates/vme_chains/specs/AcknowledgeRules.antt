@@ -3,6 +3,7 @@ use Rattle.std.specs.Prelude.{◌≡◌, refl, ℕ, ◌+◌, ◌-◌, ◌==◌, 
 use Rattle.std.specs.Prelude.{◌∷◌, Option, None, Some, if◌then◌else◌}
 use Rattle.std.proofs.Common.{lit<}
 use Rattle.std.specs.Option.{is_some}
+use Rattle.vme_trace.specs.Changes.{first_changed}
 use Rattle.vme_trace.specs.Edges.{answer_between, falls_between, low_near, strobe_low_in, strobes_high_in}
 use Rattle.vme_trace.specs.LineNumbers.{AS, DS0, DS1, DTACK, is_slot_iack, input_of, has_line}
 use Rattle.vme_trace.specs.Levels.{Levels, level_at, is_low, is_high}
@@ -65,11 +66,6 @@ is_strobed v w = low_near v w AS && (low_near v w DS0 || low_near v w DS1)
 -- AS* is low before the step and after it
 abbrev pub is_addressed : Levels → Levels → Bool
 is_addressed v w = is_low (level_at v AS) && is_low (level_at w AS)
-
--- the first changed line with p
-abbrev pub first_changed : (ℕ → Bool) → List Change → Option ℕ
-first_changed p [] = None
-first_changed p (c ∷ cs) = if p c.line then Some c.line else first_changed p cs
 
 -- a transfer starts, or the open one closes
 abbrev pub changes_strobes : Levels → Levels → Bool

@@ -98,11 +98,6 @@ is_net_broken G3 v w l = is_arbiter_grant l && falls_between v w l && is_other_g
 is_net_broken G4 v w l = is_grant l && falls_between v w l && not (high_near v w BBSY)
 is_net_broken r v w l = false
 
--- the first changed line with p
-abbrev pub first_changed : (ℕ → Bool) → List Change → Option ℕ
-first_changed p [] = None
-first_changed p (c ∷ cs) = if p c.line then Some c.line else first_changed p cs
-
 -- a line of the arbitration bus: BBSY*, a request or a grant
 abbrev pub is_arbitration : ℕ → Bool
 is_arbitration l = nat_le BBSY l && nat_lt l (iack 1)

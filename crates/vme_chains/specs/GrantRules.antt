@@ -2,6 +2,7 @@
 use Rattle.std.specs.Prelude.{ℕ, ◌+◌, Bool, false, not, ◌&&◌, ◌||◌, List, [], ◌∷◌, Option, None, Some, option_map}
 use Rattle.std.specs.Prelude.{if◌then◌else◌}
 use Rattle.std.specs.Option.{option_or}
+use Rattle.vme_trace.specs.Changes.{first_changed}
 use Rattle.vme_trace.specs.Instants.{least}
 use Rattle.vme_trace.specs.LineNumbers.{AS, BBSY, grant}
 use Rattle.vme_trace.specs.Levels.{Levels}
@@ -14,7 +15,7 @@ use Rattle.vme_monitor.specs.declared.mark.Fault.{Fault}
 use Rattle.vme_monitor.specs.declared.mark.StepMarks.{StepMarks}
 use Rattle.vme_monitor.specs.declared.mark.Next.{Next}
 use Rattle.vme_monitor.specs.declared.mark.BusGrant.{BusGrant}
-use Rattle.vme_chains.specs.GrantLevels.{falls_between, rises_between, is_low_in, first_changed, is_net_broken}
+use Rattle.vme_chains.specs.GrantLevels.{falls_between, rises_between, is_low_in, is_net_broken}
 use Rattle.vme_chains.specs.GrantLevels.{grant_begins, requested_in, taken_between, is_ungranted, touches_arbitration}
 use Rattle.vme_chains.specs.GrantLevels.{is_cycle_unowned}
 use Rattle.vme_chains.specs.GrantMemory.{is_in, union}

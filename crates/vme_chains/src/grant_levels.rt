@@ -1,9 +1,10 @@
 //! What the levels before and after a step show of grants, of requests and of BBSY*.
 
 ghost use Rattle.std.specs.Prelude.{◌≡◌, ℕ, Bool, ◌+◌, ◌-◌, ◌≤◌, ◌<◌, IfSome, None, true, false, if◌then◌else◌};
+ghost use Rattle.vme_trace.specs.Changes.{first_changed};
 ghost use Rattle.vme_trace.specs.Instants.{greatest};
 ghost use Rattle.vme_trace.specs.LineNumbers.{grant, is_grant as is_grant_line, is_slot_grant};
-ghost use Rattle.vme_chains.specs.GrantLevels.{falls_between, first_changed, grant_begins as grant_begins_of};
+ghost use Rattle.vme_chains.specs.GrantLevels.{falls_between, grant_begins as grant_begins_of};
 ghost use Rattle.vme_chains.specs.GrantLevels.{granted_level as granted_level_of, high_near};
 ghost use Rattle.vme_chains.specs.GrantLevels.{is_arbitration as is_arbitration_line};
 ghost use Rattle.vme_chains.specs.GrantLevels.{is_cycle_unowned as is_cycle_unowned_of, is_high_in, is_low_in};

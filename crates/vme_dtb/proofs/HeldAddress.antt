@@ -23,14 +23,14 @@ use Rattle.vme_trace.specs.declared.level.Level.{Level}
 use Rattle.vme_trace.specs.declared.level.Level.TheVariants.{Low, High, Unknown}
 use Rattle.vme_trace.specs.declared.rule.Rule.TheVariants.{U2, U3, U4, S1, S2, S3}
 use Rattle.vme_trace.specs.declared.step.Change.{Change}
-use Rattle.vme_trace.proofs.Changing.{level-kept, bus_line_exists}
+use Rattle.vme_trace.proofs.Changing.{level-kept, bus_line_exists, first_changed-least_alike}
 use Rattle.vme_trace.proofs.OpenTransfers.{suc-sub-one, is_judged-holds}
 use Rattle.vme_trace.proofs.Ranges.{any-alike, any-fails, any-holds, any-least, fails-any, least-found, least-none}
 use Rattle.vme_trace.proofs.Ranges.{least-none-any}
 use Rattle.vme_monitor.proofs.StretchFacts.{IsStretch}
 use Rattle.vme_dtb.specs.StabilityRules.{changed_need_line, changed_need_fault, observation_of, stability_rules}
 use Rattle.vme_dtb.specs.declared.holding.Holding.{Holding}
-use Rattle.vme_dtb.proofs.ChangedLines.{is_changed-edge, first_among-least, same_level-refl}
+use Rattle.vme_dtb.proofs.ChangedLines.{is_changed-edge, same_level-refl}
 use Rattle.vme_dtb.proofs.Needed.{needs_of-below, needs_of-same}
 use Rattle.vme_dtb.proofs.Lasting.{any-and, none-shorter}
 use Rattle.vme_dtb.proofs.StabilityMeaning.{Holds, holds_address, keeps_address-any}
@@ -388,9 +388,10 @@ module _ (t : Trace) (stretch : Stretch) where
       -- the least line that breaks S1 is the first changed line that is needed, if lines are still held
       least-S1_by_held : (b : Bool) → still_held ≡ b → least (breaks t stretch S1 (suc n)) 0 line_count
           ≡ cond b (changed_need_line old cs) None
-      least-S1_by_held true held = sym (rw (is_low-still_held held) (first_among-least (breaks t stretch S1 (suc n))
-          (is_within (needs_of old))
-          line_count is_within-below_line_count old 0 cs fit breaks-S1_unchanged (breaks-S1_changed held)))
+      least-S1_by_held true held = sym (rw (is_low-still_held held)
+          (first_changed-least_alike old (breaks t stretch S1 (suc n)) (is_within (needs_of old)) line_count
+          (λ l exists needed. is_within-below_line_count l needed) 0 cs fit breaks-S1_unchanged
+          (breaks-S1_changed held)))
       least-S1_by_held false held = least-none (breaks t stretch S1 (suc n)) 0 line_count
           (fails-any (breaks t stretch S1 (suc n)) 0
           line_count (λ l a b. breaks-S1 l ∙ rw held (nothing_held (is_judged stretch (suc n))

@@ -23,7 +23,7 @@ use Rattle.vme_trace.specs.Changes.{is_changed}
 use Rattle.vme_trace.specs.WellFormed.{are_changes}
 use Rattle.vme_trace.specs.declared.rule.Rule.TheVariants.{U4, S3}
 use Rattle.vme_trace.specs.declared.step.Change.{Change}
-use Rattle.vme_trace.proofs.Changing.{level-kept}
+use Rattle.vme_trace.proofs.Changing.{first_changed-least_alike, level-kept}
 use Rattle.vme_trace.proofs.OpenTransfers.{ReadsStrobes, suc-sub-one, in_transfer-is, in_transfer-levels}
 use Rattle.vme_trace.proofs.Ranges.{any-fails, any-step, clash, fails-any, least-alike, least-none}
 use Rattle.vme_trace.proofs.StretchEnds.{slots_at}
@@ -36,7 +36,7 @@ use Rattle.vme_dtb.specs.StabilityRules.{is_changed_data, is_undriven, keeps_dat
 use Rattle.vme_dtb.specs.StabilityRules.{observation_of, stability_rules, undriven_fault, writes_now}
 use Rattle.vme_dtb.specs.declared.holding.Holding.{Holding}
 use Rattle.vme_dtb.proofs.AskedLines.{least-condition}
-use Rattle.vme_dtb.proofs.ChangedLines.{first_among-least, same_level-refl}
+use Rattle.vme_dtb.proofs.ChangedLines.{same_level-refl}
 use Rattle.vme_dtb.proofs.StabilityMeaning.{Holds, falls-between, strobes_high_in-is_closed, is_judged-next}
 use Rattle.vme_dtb.proofs.StabilityMeaning.{strobe_rises-between, transfer_starts-between}
 use Rattle.vme_dtb.proofs.Lasting.{none-next}
@@ -412,7 +412,8 @@ module _ (t : Trace) (stretch : Stretch) (reads : ReadsStrobes t stretch) (n : �
       by_tests : (k d : Bool) → keeps_data m old new ≡ k → is_low (level_at old WRITE) ≡ d
           → least (breaks t stretch S3 (suc n)) 0 line_count ≡ cond k (observation_of old new cs).changed_data None
       by_tests true true ke de =
-          sym (rw de (first_among-least (breaks t stretch S3 (suc n)) (is_changed_data old new) line_count
-          is_changed_data-below old 0 cs fit unchanged (λ l h. breaks-is_changed_data ke de l)))
+          sym (rw de (first_changed-least_alike old (breaks t stretch S3 (suc n)) (is_changed_data old new) line_count
+          (λ l exists moved. is_changed_data-below l moved) 0 cs fit unchanged
+          (λ l h. breaks-is_changed_data ke de l)))
       by_tests true false ke de = least-S3_none cs (rw (ke, de) refl) ∙ sym (rw de refl)
       by_tests false d ke de = least-S3_none cs (rw ke refl)

@@ -1,6 +1,7 @@
 -- What a step shows of the lines that have to be known and held, from the levels before and after it and its changes.
 use Rattle.std.specs.Prelude.{ℕ, Bool, false, not, ◌&&◌, ◌||◌, List, [], ◌∷◌, Option, None, Some, if◌then◌else◌}
 use Rattle.std.specs.Option.{option_or, is_some}
+use Rattle.vme_trace.specs.Changes.{first_changed}
 use Rattle.vme_trace.specs.Edges.{answer_between, falls_between, rises_between, starts_between, strobe_falls_between}
 use Rattle.vme_trace.specs.Edges.{strobe_low_in, strobe_rises_between, strobes_high_in}
 use Rattle.vme_trace.specs.Instants.{least}
@@ -68,14 +69,9 @@ may_write v w = not (strobes_high_in v) || is_low (level_at w WRITE)
 abbrev pub undriven_line : Levels → Levels → Option ℕ
 undriven_line v w = if strobe_falls_between v w && may_write v w then least (is_undriven w) 0 line_count else None
 
--- the first changed line with p
-abbrev pub first_among : (ℕ → Bool) → List Change → Option ℕ
-first_among p [] = None
-first_among p (c ∷ cs) = if p c.line then Some c.line else first_among p cs
-
 -- the first changed line that is among `needs`
 abbrev pub first_needed : Needs → List Change → Option ℕ
-first_needed needs cs = first_among (is_within needs) cs
+first_needed needs cs = first_changed (is_within needs) cs
 
 -- a transfer moved the line before the step, and the line has another level after it
 abbrev pub is_changed_data : Levels → Levels → ℕ → Bool
@@ -84,7 +80,7 @@ is_changed_data v w l = has_line v.slots l && has_line w.slots l
 
 -- the first changed line that a transfer moved before the step, if WRITE* was low
 abbrev pub changed_data_line : Levels → Levels → List Change → Option ℕ
-changed_data_line v w cs = if is_low (level_at v WRITE) then first_among (is_changed_data v w) cs else None
+changed_data_line v w cs = if is_low (level_at v WRITE) then first_changed (is_changed_data v w) cs else None
 
 -- the first changed line that the cycle needs, if AS* was low before the step
 abbrev pub changed_need_line : Levels → List Change → Option ℕ

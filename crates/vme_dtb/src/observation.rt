@@ -2,13 +2,14 @@
 //! automaton).
 
 ghost use Rattle.std.specs.Prelude.{◌≡◌, None, false, true};
+ghost use Rattle.vme_trace.specs.Changes.{first_changed};
 ghost use Rattle.vme_trace.specs.Cycle.{Needs};
 ghost use Rattle.vme_trace.specs.Instants.{least};
 ghost use Rattle.vme_trace.specs.Levels.{Levels};
 ghost use Rattle.vme_trace.specs.LineNumbers.{line_count};
 ghost use Rattle.vme_dtb.specs.StabilityRules.{changed_data_line as changed_data_line_of};
 ghost use Rattle.vme_dtb.specs.StabilityRules.{changed_need_line as changed_need_line_of};
-ghost use Rattle.vme_dtb.specs.StabilityRules.{fault_on as fault_on_line, first_among};
+ghost use Rattle.vme_dtb.specs.StabilityRules.{fault_on as fault_on_line};
 ghost use Rattle.vme_dtb.specs.StabilityRules.{first_needed as first_needed_of};
 ghost use Rattle.vme_dtb.specs.StabilityRules.{is_changed_data as is_changed_data_of, is_undriven};
 ghost use Rattle.vme_dtb.specs.StabilityRules.{may_change_memory as may_change_memory_of, may_write as may_write_of};
@@ -110,7 +111,7 @@ fn first_needed(needed: &LineSet, changes: &[Change]) -> Option<Line>
 /// or an answer line, and no transfer moves them. Most steps change no other line, and then neither is searched for.
 fn changes_beyond_answers(changes: &[Change]) -> bool
     ensures no_need { result ≡ false → (needs : Needs) → first_needed_of needs changes.now ≡ None }
-    ensures no_data { result ≡ false → (v w : Levels) → first_among (is_changed_data_of v w) changes.now ≡ None }
+    ensures no_data { result ≡ false → (v w : Levels) → first_changed (is_changed_data_of v w) changes.now ≡ None }
 {
     for change in changes {
         if change.line.number() > Line::BERR.number() {
@@ -171,7 +172,7 @@ fn undriven_line(before: &Lines, after: &Lines) -> Option<Line>
 
 /// Whether a data line is among the changes. A transfer moves no other lines.
 fn touches_data(changes: &[Change]) -> bool
-    ensures { result ≡ false → (v w : Levels) → first_among (is_changed_data_of v w) changes.now ≡ None }
+    ensures { result ≡ false → (v w : Levels) → first_changed (is_changed_data_of v w) changes.now ≡ None }
 {
     for change in changes {
         if change.line.is_data() {
@@ -193,7 +194,7 @@ fn is_changed_data(line: Line, before: &Lines, after: &Lines) -> bool
 
 /// The first changed data line that a transfer moved before the step.
 fn first_changed_data(before: &Lines, after: &Lines, changes: &[Change]) -> Option<Line>
-    ensures { result ≡ first_among (is_changed_data_of before.now after.now) changes.now }
+    ensures { result ≡ first_changed (is_changed_data_of before.now after.now) changes.now }
 {
     for change in changes {
         if is_changed_data(change.line, before, after) {
@@ -212,7 +213,7 @@ fn changed_data_line(
     after: &Lines,
     changes: &[Change],
 ) -> Option<Line>
-    requires { beyond_answers ≡ false → (v w : Levels) → first_among (is_changed_data_of v w) changes.now ≡ None }
+    requires { beyond_answers ≡ false → (v w : Levels) → first_changed (is_changed_data_of v w) changes.now ≡ None }
     ensures { result ≡ changed_data_line_of before.now after.now changes.now }
 {
     if beyond_answers && before.level(Line::WRITE).is_low() && touches_data(changes) {

@@ -1,18 +1,19 @@
--- Where a control line is lost, i.e. unknown on a bus that isn't reset, and what changes of lines leave as it is.
+-- Where a control line is lost, i.e. unknown on a bus that isn't reset, what changes of lines leave as it is, and the
+-- first changed line with a property.
 use Rattle.std.proofs.Common.{◌≡◌, ℕ, ◌+◌, ◌<◌, ◌≤◌, Bool, true, false, ◌||◌, ◌&&◌, not, List, [], ◌∷◌, refl, sym, ◌∙◌}
-use Rattle.std.proofs.Common.{ap, arith, ◌≢◌, cond}
+use Rattle.std.proofs.Common.{ap, arith, ◌≢◌, cond, drop, get_or, length}
 use Rattle.std.specs.Prelude.{None, Some, ◌==◌, nat_le, slice_set}
 use Rattle.std.proofs.lemmas.Bool.Decides.{nat_tests}
-use Rattle.std.proofs.lemmas.List.{get_or-set_other}
+use Rattle.std.proofs.lemmas.List.{drop_more, get_or-set_other}
 use Rattle.std.proofs.lemmas.Option.{unwrap_or-slice_get}
-use Rattle.std.proofs.lemmas.Bool.{and_parts, not-false, not-true, or_parts, eqb-true}
+use Rattle.std.proofs.lemmas.Bool.{and_parts, eq-eqb, eqb-true, not-false, not-true, or_parts, or_right}
 use Rattle.vme_trace.specs.Instants.{any, least}
 use Rattle.vme_trace.specs.LineNumbers.{line_count, SYSRESET, has_line, is_control}
 use Rattle.vme_trace.specs.Levels.{Levels, level_at, set_level, rests_high, is_idle, is_idle_on, is_reset, is_lost}
 use Rattle.vme_trace.specs.Levels.{is_low, is_high, is_known, loses_control}
 use Rattle.vme_trace.specs.Trace.{changed}
 use Rattle.vme_trace.specs.WellFormed.{are_changes}
-use Rattle.vme_trace.specs.Changes.{is_changed, touches_control, lost_among}
+use Rattle.vme_trace.specs.Changes.{first_changed, is_changed, lost_among, touches_control}
 use Rattle.vme_trace.specs.declared.level.Level.{Level}
 use Rattle.vme_trace.specs.declared.level.Level.TheVariants.{Low, High, Unknown}
 use Rattle.vme_trace.specs.declared.step.Change.{Change}
@@ -137,7 +138,7 @@ lost-kept v cs l r h k = rw (slots-kept v cs, level-kept v cs l k)
     (is_reset (changed v cs)) h r)
 
 -- a line below `lowest` isn't among the changed ones
-is_changed-below : (v : Levels) (lowest l : ℕ) (cs : List Change) → are_changes v lowest cs ≡ true → l < lowest
+pub is_changed-below : (v : Levels) (lowest l : ℕ) (cs : List Change) → are_changes v lowest cs ≡ true → l < lowest
     → is_changed cs l ≡ false
 unfolding are_changes
 is_changed-below v lowest l [] h b = refl
@@ -166,6 +167,72 @@ bus_line_exists slots l h = grind (arith, nat_tests)
 -- a number below k is below k + 1
 lt-next : (l k : ℕ) → l < k → l < k + 1
 lt-next l k h = omega arith
+
+-- a number isn't equal to a lower one
+eqb-lower : (a b : ℕ) → b < a → (a == b) ≡ false
+eqb-lower a b h = grind (arith, nat_tests)
+
+-- the least line with p is the first changed line with q, if p fails on unchanged lines and agrees with q on changed
+-- ones, and each line of the backplane with q is below n
+module _ (v : Levels) (p q : ℕ → Bool) (n : ℕ)
+    (bound : (l : ℕ) → has_line v.slots l ≡ true → q l ≡ true → l < n) where
+  -- if no line below that of the first change has p, that line is the least with p if q holds of it, and else the one
+  -- found among the rest is
+  first_changed-least_here : (c : Change) (cs : List Change) (b : Bool) → q c.line ≡ b
+      → has_line v.slots c.line ≡ true → (b ≡ true → p c.line ≡ true) → any p 0 c.line ≡ false
+      → (b ≡ false → first_changed q cs ≡ least p 0 n) → cond b (Some c.line) (first_changed q cs) ≡ least p 0 n
+  first_changed-least_here c cs true e exists holds none rest =
+      sym (least-is p 0 n c.line (omega arith) (bound c.line exists e) (holds refl) none)
+  first_changed-least_here c cs false e exists holds none rest = rest refl
+
+  -- if p fails on the line of the first change, it fails on each line that the rest leaves unchanged
+  fails-unchanged_rest : (c : Change) (cs : List Change) → ((l : ℕ) → is_changed (c ∷ cs) l ≡ false → p l ≡ false)
+      → p c.line ≡ false → (l : ℕ) → is_changed cs l ≡ false → p l ≡ false
+  fails-unchanged_rest c cs fails here l h = by_line (c.line == l) refl
+    where
+      by_line : (b : Bool) → (c.line == l) ≡ b → p l ≡ false
+      by_line true e = ap p (sym (eqb-true c.line l e)) ∙ here
+      by_line false e = fails l (rw (e, h) refl)
+
+  -- the first changed line with q is the least line with p
+  pub first_changed-least_alike : (lowest : ℕ) (cs : List Change) → are_changes v lowest cs ≡ true
+      → ((l : ℕ) → is_changed cs l ≡ false → p l ≡ false) → ((l : ℕ) → is_changed cs l ≡ true → p l ≡ q l)
+      → first_changed q cs ≡ least p 0 n
+  unfolding are_changes
+  first_changed-least_alike lowest [] h fails alike =
+      sym (least-none p 0 n (fails-any p 0 n (λ l a b. fails l refl)))
+  first_changed-least_alike lowest (c ∷ cs) h fails alike =
+      let parts = and_parts _ _ h in
+      let exists = (and_parts _ _ (and_parts _ _ parts.0).0).1 in
+      let here : p c.line ≡ q c.line = alike c.line (rw (eq-eqb c.line c.line refl) refl) in
+      first_changed-least_here c cs (q c.line) refl exists (λ e. here ∙ e)
+      (fails-any p 0 c.line
+      (λ l a b. fails l (rw (eqb-lower c.line l b, is_changed-below v (c.line + 1) l cs parts.1 (lt-next l c.line b))
+      refl)))
+      (λ e. first_changed-least_alike (c.line + 1) cs parts.1 (fails-unchanged_rest c cs fails (here ∙ e))
+      (λ l k. alike l (or_right (c.line == l) (is_changed cs l) k)))
+
+-- if p fails on unchanged lines, the first changed line with p is the least line with p
+pub first_changed-least : (v : Levels) (p : ℕ → Bool) → v.slots ≤ 21 → (lowest : ℕ) (cs : List Change)
+    → are_changes v lowest cs ≡ true → ((l : ℕ) → is_changed cs l ≡ false → p l ≡ false)
+    → first_changed p cs ≡ least p 0 line_count
+first_changed-least v p few lowest cs h fails =
+    first_changed-least_alike v p p line_count (λ l exists holds. exists_below v.slots l few exists) lowest cs h fails
+    (λ l k. refl)
+
+-- a first change whose line hasn't p can be left out
+first_changed-passed : (p : ℕ → Bool) (c : Change) (cs : List Change) → p c.line ≡ false
+    → first_changed p (c ∷ cs) ≡ first_changed p cs
+first_changed-passed p c cs h = rw h refl
+
+-- if the first changed line with p of all changes is that of the changes from i on, and the line of change i hasn't p,
+-- it is that of the changes from i + 1 on
+pub first_changed-drop_next : (p : ℕ → Bool) (cs : List Change) (i : ℕ) (c : Change) → i < length cs
+    → c ≡ get_or cs i c → p c.line ≡ false → first_changed p (drop i cs) ≡ first_changed p cs
+    → first_changed p (drop (i + 1) cs) ≡ first_changed p cs
+first_changed-drop_next p cs i c h e fails so_far =
+    let split : drop i cs ≡ c ∷ drop (i + 1) cs = drop_more cs i c h ∙ ap (λ x. x ∷ drop (i + 1) cs) (sym e) in
+    sym (first_changed-passed p c (drop (i + 1) cs) fails) ∙ (sym (ap (first_changed p) split) ∙ so_far)
 
 module _ (v now : Levels) (few : v.slots ≤ 21) where
   -- the line of the first change is the least lost line if it is lost, and else that of the rest is

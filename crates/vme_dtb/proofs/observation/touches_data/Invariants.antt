@@ -1,10 +1,11 @@
 -- The loop over changes: for any levels, the first changed data line of the changes that are left is that of all
 -- changes.
 use Rattle.std.proofs.Common.{◌≡◌, drop}
+use Rattle.vme_trace.specs.Changes.{first_changed}
 use Rattle.vme_trace.specs.Levels.{Levels}
-use Rattle.vme_dtb.specs.StabilityRules.{first_among, is_changed_data}
+use Rattle.vme_dtb.specs.StabilityRules.{is_changed_data}
 use Rattle.vme_dtb.proofs.observation.touches_data.Given as goal
 
 abbrev pub invariant-loop-change : goal.invariant-loop-change
-invariant-loop-change l = (v w : Levels) → first_among (is_changed_data v w) (drop l.change-index l.changes)
-    ≡ first_among (is_changed_data v w) l.changes
+invariant-loop-change l = (v w : Levels) → first_changed (is_changed_data v w) (drop l.change-index l.changes)
+    ≡ first_changed (is_changed_data v w) l.changes
