@@ -234,46 +234,6 @@ first_changed-drop_next p cs i c h e fails so_far =
     let split : drop i cs ≡ c ∷ drop (i + 1) cs = drop_more cs i c h ∙ ap (λ x. x ∷ drop (i + 1) cs) (sym e) in
     sym (first_changed-passed p c (drop (i + 1) cs) fails) ∙ (sym (ap (first_changed p) split) ∙ so_far)
 
-module _ (v now : Levels) (few : v.slots ≤ 21) where
-  -- the line of the first change is the least lost line if it is lost, and else that of the rest is
-  lost_among-least_here : (c : Change) (cs : List Change) (b : Bool) → is_lost now c.line ≡ b → c.line < line_count
-      → any (is_lost now) 0 c.line ≡ false → (b ≡ false → lost_among now cs ≡ least (is_lost now) 0 line_count)
-      → cond b (Some c.line) (lost_among now cs) ≡ least (is_lost now) 0 line_count
-  lost_among-least_here c cs true e below before rest = sym
-      (least-is (is_lost now) 0 line_count c.line (omega arith) below e
-      before)
-  lost_among-least_here c cs false e below before rest = rest refl
-
-  -- a number isn't equal to a lower one
-  unlike : (a b : ℕ) → b < a → (a == b) ≡ false
-  unlike a b h = grind (arith, nat_tests)
-
-  -- if the line of the first change isn't lost, no line that the rest leaves unchanged is
-  is_lost-unchanged_rest : (c : Change) (cs : List Change)
-      → ((l : ℕ) → is_changed (c ∷ cs) l ≡ false → is_lost now l ≡ false)
-      → is_lost now c.line ≡ false → (l : ℕ) → is_changed cs l ≡ false → is_lost now l ≡ false
-  is_lost-unchanged_rest c cs kept here l h = by_line (c.line == l) refl
-    where
-      by_line : (b : Bool) → (c.line == l) ≡ b → is_lost now l ≡ false
-      by_line true e = ap (is_lost now) (sym (eqb-true c.line l e)) ∙ here
-      by_line false e = kept l (rw (e, h) refl)
-
-  -- where no unchanged line is lost, the first changed line that is lost is the least lost line
-  lost_among-least : (lowest : ℕ) (cs : List Change) → are_changes v lowest cs ≡ true
-      → ((l : ℕ) → is_changed cs l ≡ false
-      → is_lost now l ≡ false) → lost_among now cs ≡ least (is_lost now) 0 line_count
-  unfolding are_changes
-  lost_among-least lowest [] h kept = sym (least-none (is_lost now) 0 line_count (fails-any (is_lost now) 0 line_count
-      (λ l a b. kept l refl)))
-  lost_among-least lowest (c ∷ cs) h kept =
-      let parts = and_parts _ _ h in
-      let exists = (and_parts _ _ (and_parts _ _ parts.0).0).1 in
-      lost_among-least_here c cs (is_lost now c.line) refl (exists_below v.slots c.line few exists)
-      (fails-any (is_lost now) 0 c.line
-      (λ l a b. kept l (rw (unlike c.line l b, is_changed-below v (c.line + 1) l cs parts.1 (lt-next l c.line b))
-      refl)))
-      (λ e. lost_among-least (c.line + 1) cs parts.1 (is_lost-unchanged_rest c cs kept e))
-
 -- where control isn't lost, no line is
 is_lost-none : (v : Levels) (l : ℕ) → v.slots ≤ 21 → loses_control v ≡ false → is_lost v l ≡ false
 unfolding loses_control
@@ -288,7 +248,7 @@ is_lost-none v l few h = by_test (is_lost v l) refl
 -- where the bus wasn't reset before and no line was lost, the first changed line that is lost is the least lost line
 pub lost-least : (v : Levels) (cs : List Change) → v.slots ≤ 21 → are_changes v 0 cs ≡ true → loses_control v ≡ false
     → is_reset v ≡ false → lost_among (changed v cs) cs ≡ least (is_lost (changed v cs)) 0 line_count
-lost-least v cs few h held unreset = lost_among-least v (changed v cs) few 0 cs h
+lost-least v cs few h held unreset = first_changed-least v (is_lost (changed v cs)) few 0 cs h
     (λ l k. lost-kept v cs l unreset (is_lost-none v l few held) k)
 
 -- where no control line is among the changed ones, none of them is lost
@@ -296,4 +256,4 @@ pub lost-untouched : (now : Levels) (cs : List Change) → touches_control now.s
 lost-untouched now [] h = refl
 lost-untouched now (c ∷ cs) h =
     let both = or_parts (is_control now.slots c.line) (touches_control now.slots cs) h in
-    rw (both.0, lost-untouched now cs both.1) refl
+    first_changed-passed (is_lost now) c cs (rw both.0 refl) ∙ lost-untouched now cs both.1
