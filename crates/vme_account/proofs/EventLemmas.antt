@@ -5,22 +5,13 @@ use Rattle.std.specs.Prelude.{Option, None, Some, is_some, nat_le, unwrap_or, if
 use Rattle.std.proofs.lemmas.Bool.Decides.{nat_tests}
 use Rattle.std.proofs.lemmas.Bool.{lt-leb}
 use Rattle.vme_trace.specs.Instants.{any, greatest, least}
-use Rattle.vme_trace.proofs.Ranges.{least-none, greatest-step, greatest-below, is_some-least}
+use Rattle.vme_trace.proofs.Ranges.{greatest-step, greatest-below, is_some-least, least-past}
 
 -- the first number from f to n that has `p`: the first below n, or else n, if n has it and isn't below f
 least-step : (p : ℕ → Bool) (f n : ℕ) → least p f (n + 1) ≡ (if any p f n then least p f n else if nat_le f n
     && p n then Some n else None)
 unfolding least
 least-step p f n = rw add-one refl
-
--- no number from f to below n has `p` if n is at most f
-pub least-empty_range : (p : ℕ → Bool) (f n : ℕ) → n ≤ f → least p f n ≡ None
-unfolding least any
-least-empty_range p f n le = least-none p f n (none_from n le)
-  where
-    none_from : (n : ℕ) → n ≤ f → any p f n ≡ false
-    none_from zero le = refl
-    none_from (suc n) le = rw (none_from n (omega (arith, le)), lt-leb f n le) refl
 
 -- the next instant, i + 1, is not before s + 1, the first judged instant
 s_next_le : (s i : ℕ) → s ≤ i → nat_le (s + 1) (i + 1) ≡ true
@@ -74,7 +65,7 @@ module _ (p q : ℕ → Bool) (s i : ℕ) (le : s ≤ i) where
 
       none_before : any p (i + 1) (i + 1) ≡ false
       none_before = sym (is_some-least p (i + 1) (i + 1)) ∙ ap is_some
-          (least-empty_range p (i + 1) (i + 1) (omega arith))
+          (least-past p (i + 1) (i + 1) (omega arith))
 
   -- if `q` doesn't happen at the next instant, the first `p` since `q` stays, or without one is the next instant, if
   -- `p` happens there

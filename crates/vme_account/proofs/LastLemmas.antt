@@ -15,8 +15,8 @@ use Rattle.vme_trace.specs.declared.level.Level.{Level}
 use Rattle.vme_trace.specs.declared.level.Level.TheVariants.{High, Low, Unknown}
 use Rattle.vme_trace.specs.declared.step.Change.{Change}
 use Rattle.vme_trace.proofs.Changing.{level-kept, slots-kept}
-use Rattle.vme_trace.proofs.Ranges.{greatest-empty}
-use Rattle.vme_account.proofs.EventLemmas.{greatest-not_at_next, greatest-at_next, least-empty_range}
+use Rattle.vme_trace.proofs.Ranges.{greatest-empty, least-past}
+use Rattle.vme_account.proofs.EventLemmas.{greatest-not_at_next, greatest-at_next}
 use Rattle.vme_account.proofs.EventLemmas.{since-before, since-now}
 use Rattle.vme_account.specs.LastEvents.{AreLast, first_or, handshake_after, last_after, moment, moment_at, no_events}
 use Rattle.vme_account.specs.LastEvents.{noted, now_or, unless}
@@ -353,7 +353,7 @@ AreLast-start t s = record {
 
     first_nowhere : (p q : StepEvent) → moment t (least (happens t p) (since t q s s) (s + 1)) ≡ None
     first_nowhere p q = ap (λ (f : ℕ). moment t (least (happens t p) f (s + 1))) (since-start t q s)
-        ∙ ap (moment t) (least-empty_range (happens t p) (s + 1) (s + 1) (omega arith))
+        ∙ ap (moment t) (least-past (happens t p) (s + 1) (s + 1) (omega arith))
 
 -- ---- taking a step
 

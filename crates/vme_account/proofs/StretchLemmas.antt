@@ -8,9 +8,8 @@ use Rattle.std.proofs.lemmas.Bool.{eqb-true, ltb-true, eq-eqb}
 use Rattle.vme_trace.specs.Instants.{greatest, least}
 use Rattle.vme_trace.specs.LineNumbers.{AS, DS0, DS1, DTACK, grant, line_count}
 use Rattle.vme_trace.specs.Trace.{Trace}
-use Rattle.vme_trace.proofs.Ranges.{greatest-below}
+use Rattle.vme_trace.proofs.Ranges.{greatest-below, least-past}
 use Rattle.vme_account.proofs.EventLemmas.{greatest-either, greatest-not_at_next, greatest-at_next, later_instant}
-use Rattle.vme_account.proofs.EventLemmas.{least-empty_range}
 use Rattle.vme_account.specs.LastEvents.{AreLast, last_fall, last_of, last_rise, later, moment, moment_at}
 use Rattle.vme_account.specs.RelatedEvents.{happens, searched, since}
 use Rattle.vme_account.specs.StretchEvents.{AreEvents, is_at, is_kept_at, is_kept_last, moment_before}
@@ -114,7 +113,7 @@ module _ (t : Trace) where
             let here : greatest (happens t q) (s + 1) (i + 1 + 1) ≡ Some (i + 1) =
             greatest-at_next (happens t q) s i le now in
             let nowhere : first_since (Some (i + 1)) ≡ None =
-            ap (moment t) (least-empty_range (happens t p) (i + 1) (i + 1) (omega arith)) in
+            ap (moment t) (least-past (happens t p) (i + 1) (i + 1) (omega arith)) in
             ap unless_now here
             ∙ (ap (λ (c : Bool). cond c None (first_since (greatest (happens t q) (s + 1) (i + 1))))
             (eq-eqb (i + 1) (i + 1) refl) ∙ sym (ap first_since here ∙ nowhere))

@@ -8,7 +8,7 @@ use Rattle.std.proofs.lemmas.Bool.{not-false, not-true, or_parts}
 use Rattle.std.proofs.lemmas.Bool.Decides.{nat_tests}
 use Rattle.vme_trace.specs.declared.class.Class.TheVariants as class
 use Rattle.vme_trace.proofs.EveryRule.{every-rule, same-rule}
-use Rattle.vme_trace.proofs.Ranges.{any-fails, fails-any}
+use Rattle.vme_trace.proofs.Ranges.{any-fails, fails-any, is_some-least}
 use Rattle.vme_trace.proofs.Changing.{level-kept}
 use Rattle.vme_trace.proofs.StretchEnds.{slots_at}
 use Rattle.vme_cert.specs.Vocabulary.{A, BERR, Change, Class, DS0, DS1, DTACK, H1, High, LWORD, Level, Levels, Low}
@@ -26,7 +26,7 @@ use Rattle.vme_cert.specs.declared.bus.Bus.{Bus}
 use Rattle.vme_cert.specs.declared.state.State.{State}
 use Rattle.std.proofs.lemmas.List.Folds.{list_any_at}
 use Rattle.std.proofs.Math.Bool.{and-false}
-use Rattle.vme_cert.proofs.Ranges.{eq-fails_below, range-of_tests, any-first, by_either_value}
+use Rattle.vme_cert.proofs.Ranges.{eq-fails_below, range-of_tests, by_either_value}
 use Rattle.vme_cert.proofs.Fields.{transfer_starts-is}
 
 -- ---- The table of rules by line lists the rules that speak of a line: every rule is tried on every line.
@@ -354,4 +354,4 @@ pub ruleset started = (
 )
 
 -- for the goals of `is_broken_within`
-pub ruleset within = (known-within, any-first, any-fails)
+pub ruleset within = (known-within, is_some-least, any-fails)

@@ -8,7 +8,7 @@ use Rattle.std.specs.Option.{option_map_or}
 use Rattle.std.proofs.lemmas.Bool.{le-leb, ltb-true, ltb-false, and_parts, and_from, not-false, not-true, or_parts}
 use Rattle.std.proofs.lemmas.Bool.{cases_lt}
 use Rattle.vme_trace.proofs.OpenTransfers.{in_transfer-is, ReadsStrobes}
-use Rattle.vme_trace.proofs.Ranges.{any-holds, fails-any, any-step, any-fails, clash, any-least, least-found}
+use Rattle.vme_trace.proofs.Ranges.{any-holds, fails-any, any-step, any-fails, clash, any-least, least-found, any-past}
 use Rattle.vme_trace.proofs.Ranges.{greatest-empty, not_or, those-empty}
 use Rattle.vme_trace.proofs.JudgedStretches.{stretch_reads}
 use Rattle.vme_cert.specs.Vocabulary.{AS, DS0, DS1, DTACK, High, Level, Low, Stretch, Trace, Unknown, WRITE}
@@ -25,7 +25,7 @@ use Rattle.vme_cert.specs.Instant.{starts_transfer}
 use Rattle.vme_cert.specs.declared.state.Transfer.{Transfer}
 use Rattle.vme_cert.specs.declared.state.Cycle.{Cycle}
 use Rattle.vme_cert.proofs.Ranges.{IsGreatest, greatest-found, none-shorter}
-use Rattle.vme_cert.proofs.Ranges.{is_judged-after_start, greatest-here, greatest-not, none-step, any-start}
+use Rattle.vme_cert.proofs.Ranges.{is_judged-after_start, greatest-here, greatest-not, none-step}
 use Rattle.vme_cert.proofs.Ranges.{eq-or_below}
 use Rattle.vme_cert.proofs.Ranges.{greatest-none-any, below-same-above}
 use Rattle.vme_cert.proofs.Ranges.{by_either_value, by_option, is_judged-not_opening, only-last, and-fails_unless}
@@ -216,10 +216,10 @@ module _ (t : Trace) (stretch : Stretch) (j : ℕ) (judged : is_judged stretch j
     here = λ e. record {
       last = greatest-here (transfer_starts t stretch) (stretch.start + 1) j (is_judged-after_start stretch j judged)
           (transfer_starts-is ∙ here);
-      still = ap not (any-start (strobes_high t) (j + 1) j (omega arith));
+      still = ap not (any-past (strobes_high t) (j + 1) j (omega arith));
       direction = is;
-      answered = sym (any-start (λ r. lasts t stretch j r && answer_falls t r) j j (omega arith));
-      rose = sym (any-start (strobe_rises t) (j + 1) j (omega arith));
+      answered = sym (any-past (λ r. lasts t stretch j r && answer_falls t r) j j (omega arith));
+      rose = sym (any-past (strobe_rises t) (j + 1) j (omega arith));
     };
     absent = λ e. absurd (cc);
   }
@@ -271,7 +271,7 @@ module _ (t : Trace) (stretch : Stretch) (j : ℕ) (judged : is_judged stretch j
         none-step (strobes_high t) (c.start + 1) j (omega arith)
         ∙ and_from (none (strobes_high t) (c.start + 1) j) (not (strobes_high t j)) is.still (ap not low))
         (λ e. let same = ltb-false c.start j e in
-        ap not (any-start (strobes_high t) (c.start + 1) (j + 1) (omega arith)))
+        ap not (any-past (strobes_high t) (c.start + 1) (j + 1) (omega arith)))
 
     -- a strobe rose since the start of the transfer, if one did before, or does at j after the start
     pub any-strobe_rose : any (strobe_rises t) (c.start + 1) (j + 1)
@@ -446,14 +446,14 @@ module _ (t : Trace) (stretch : Stretch) (j : ℕ) (judged : is_judged stretch j
         class = class ∙ sym (ap (class_at t) at);
         needs = needs ∙ sym (ap (λ k. needs_of (levels_at t k)) at);
         runs = runs ∙ sym (ap (λ k. none (rises t AS) (k + 1) j) at
-            ∙ ap not (any-start (rises t AS) (j + 1) j (omega arith)));
+            ∙ ap not (any-past (rises t AS) (j + 1) j (omega arith)));
         is_low = λ on before. absurd (omega arith);
         others = λ i start before. earlier_cycles-ended t stretch j o was here i start (omega arith);
         answered = answered ∙ sym (ap has_earlier_answer none_yet);
         first_writes = first ∙ sym (ap (writes_first t stretch) none_yet);
         answered_again = again ∙ sym (ap is_many none_yet);
         answered_by_dtack = answered_by_dtack ∙ sym (ap (λ k. is_answered_by_dtack t stretch k j) at
-            ∙ any-start (λ r. is_answer t stretch r && falls t DTACK r) j j (omega arith));
+            ∙ any-past (λ r. is_answer t stretch r && falls t DTACK r) j j (omega arith));
       }
 
   -- where no cycle starts, the last one stays what it is
@@ -492,8 +492,8 @@ module _ (t : Trace) (stretch : Stretch) (j : ℕ) (judged : is_judged stretch j
         -- by whether the cycle starts at j or before it
         by_order : (c.start ≡ j) ⊎ (c.start < j) → none (rises t AS) (c.start + 1) (j + 1)
             ≡ (c.runs && not (rises t AS j))
-        by_order (inl e) = ap not (any-start (rises t AS) (c.start + 1) (j + 1) (omega arith))
-            ∙ (sym (is.runs ∙ ap not (any-start (rises t AS) (c.start + 1) j (omega arith)))
+        by_order (inl e) = ap not (any-past (rises t AS) (c.start + 1) (j + 1) (omega arith))
+            ∙ (sym (is.runs ∙ ap not (any-past (rises t AS) (c.start + 1) j (omega arith)))
             ∙ (sym (and-true c.runs) ∙ ap (λ b. c.runs && not b) (sym (rises-not_if_falls t AS j
             (sym cycle_starts-is ∙ (ap (cycle_starts t stretch) (sym e) ∙ IsGreatest-last_cycle.holds))))))
         by_order (inr before) = none-step (rises t AS) (c.start + 1) j (omega arith)
@@ -612,13 +612,13 @@ module _ (t : Trace) (stretch : Stretch) (p q : ℕ → Bool) (j : ℕ) (judged 
     where
       -- from `j` on `q` has held exactly if it does at `j`
       any-from_here : any q j (j + 1) ≡ q j
-      any-from_here = any-step q j j ∙ rw (any-start q j j (omega arith), le-leb j j (omega arith)) refl
+      any-from_here = any-step q j j ∙ rw (any-past q j j (omega arith), le-leb j j (omega arith)) refl
 
   -- whether `q` holds after `p` last did, before `j + 1`, by whether it did before `j`
   pub any_after-field_step : {a b c : Bool} → a ≡ any q (last_before t stretch p j + 1) j → b ≡ p j → c ≡ q j
       → ((a || c) && not b) ≡ any q (last_before t stretch p (j + 1) + 1) (j + 1)
   any_after-field_step e f g = rw (e, f, g) (by_either_value (p j)
-      (λ e. rw (last_before-here e, e, and-false) (sym (any-start q (j + 1) (j + 1) (omega arith))))
+      (λ e. rw (last_before-here e, e, and-false) (sym (any-past q (j + 1) (j + 1) (omega arith))))
       (λ e. rw (last_before-not_here e, e, and-true) (sym any_after-step)))
 
 -- the fields after the start of a stretch
@@ -633,13 +633,13 @@ module _ (t : Trace) (stretch : Stretch) (p q : ℕ → Bool) where
   pub any_since-at_start : any q (last_before t stretch p (stretch.start + 1)) (stretch.start + 1) ≡ q stretch.start
   any_since-at_start = ap (λ k. any q k (stretch.start + 1)) last_before-start
       ∙ (any-step q stretch.start stretch.start
-      ∙ rw (any-start q stretch.start stretch.start (omega arith), le-leb stretch.start stretch.start (omega arith))
+      ∙ rw (any-past q stretch.start stretch.start (omega arith), le-leb stretch.start stretch.start (omega arith))
       refl)
 
   -- just after the start of a stretch, `q` hasn't held after `p`
   pub any_after-at_start : any q (last_before t stretch p (stretch.start + 1) + 1) (stretch.start + 1) ≡ false
   any_after-at_start = ap (λ k. any q (k + 1) (stretch.start + 1)) last_before-start
-      ∙ any-start q (stretch.start + 1) (stretch.start + 1) (omega arith)
+      ∙ any-past q (stretch.start + 1) (stretch.start + 1) (omega arith)
 
 module _ (t : Trace) (stretch : Stretch) (j : ℕ) (judged : is_judged stretch j ≡ true) where
   module _ (c : Transfer) (is : IsTransfer t stretch (j + 1) j c) where

@@ -6,7 +6,7 @@ use Rattle.std.specs.Prelude.{◌==◌, Option, None, Some, slice_get, nat_le, i
 use Rattle.std.proofs.lemmas.Bool.Decides.{nat_tests}
 use Rattle.std.proofs.lemmas.Bool.{and_parts, and_left, and_right, not-true, cases_lt}
 use Rattle.std.proofs.Math.Bool.{and-not_self}
-use Rattle.vme_trace.proofs.Ranges.{clash, least-is, least-none, any-fails, any-holds, fails-any, least-found}
+use Rattle.vme_trace.proofs.Ranges.{clash, least-is, least-none, any-fails, any-holds, fails-any, least-found, any-past}
 use Rattle.vme_trace.proofs.Ranges.{least-none-any}
 use Rattle.vme_trace.specs.declared.class.Class.TheVariants as class
 use Rattle.vme_trace.proofs.ListLaws.{slice_get-append}
@@ -41,7 +41,7 @@ use Rattle.vme_cert.proofs.Placing.{expected_to-cycle, count_before-next, rows_i
 use Rattle.vme_cert.proofs.Placing.{rows_in-length}
 use Rattle.vme_cert.proofs.Placing.{expected_to-tenure}
 use Rattle.vme_cert.proofs.Placing.{expected_to-transfer}
-use Rattle.vme_cert.proofs.Ranges.{Some-injective, any-more, any-start, greatest-found, is_judged-after_start}
+use Rattle.vme_cert.proofs.Ranges.{Some-injective, any-more, greatest-found, is_judged-after_start}
 use Rattle.vme_cert.proofs.Ranges.{greatest-here, greatest-not, by_either_value}
 use Rattle.vme_cert.proofs.Ranges.{by_option}
 use Rattle.vme_cert.proofs.Instant.{known-AS, known-control_line}
@@ -154,7 +154,7 @@ module _ (v : Version) (done : List Row) (t : Trace) (stretch : Stretch) (l j : 
       record {
         start = j;
         before = omega arith;
-        still = any-start (rises t l) (j + 1) (j + 1) (omega arith);
+        still = any-past (rises t l) (j + 1) (j + 1) (omega arith);
         is_low = rw back is_low;
         expected = λ end from within. places end from within ∙ ap (λ (r : Row). Some r)
             (sym (ap (λ (r : Row). with_edge r (least (rises t l) (j + 1) end)) is
@@ -326,9 +326,9 @@ module _ (t : Trace) (stretch : Stretch) where
       start = j;
       last = greatest-here (transfer_starts t stretch) (stretch.start + 1) j (is_judged-after_start stretch j judged)
           (transfer_starts-is t stretch j judged ∙ here);
-      still = any-start (strobes_high t) (j + 1) j (omega arith);
+      still = any-past (strobes_high t) (j + 1) j (omega arith);
       expected = places;
-      known = λ end edge. rw (least-none (answers t stretch j) j j (any-start (answers t stretch j) j j (omega arith)))
+      known = λ end edge. rw (least-none (answers t stretch j) j j (any-past (answers t stretch j) j j (omega arith)))
           (ap (λ (r : Row). with_edge r edge) (expected end));
     }
 

@@ -5,12 +5,13 @@ use Rattle.std.specs.Prelude.{None, is_some, Option, Some, option_map, unwrap_or
 use Rattle.std.proofs.lemmas.Bool.{ltb-true, and_parts}
 use Rattle.std.proofs.Math.Bool.{or-false, or-true}
 use Rattle.vme_trace.proofs.Ranges.{any-holds, fails-any, least-found, least-none-any, any-fails}
+use Rattle.vme_trace.proofs.Ranges.{any-past, is_some-least}
 use Rattle.vme_trace.proofs.JudgedStretches.{stretch_unlost, stretch_unreset}
 use Rattle.vme_cert.specs.Vocabulary.{AS, IsStretchOf, Stretch, Trace, any, every, falls, grant, greatest, has_edge}
 use Rattle.vme_cert.specs.Vocabulary.{has_reached, high, is_control, is_granting, is_judged, is_known_on, is_lost}
 use Rattle.vme_cert.specs.Vocabulary.{is_reset, is_reset_at, known, least, levels_at, line_count, loses_control}
 use Rattle.vme_cert.specs.Vocabulary.{loses_control_at, low, near, rises, taken_grant, tenure_level, tenure_slot}
-use Rattle.vme_cert.proofs.Ranges.{any-first, greatest-is, any-start, by_either_value}
+use Rattle.vme_cert.proofs.Ranges.{greatest-is, by_either_value}
 
 -- for what a line shows by the levels that a `Bus` keeps: to unfold this is to unfold each of these names
 unfoldable pub shown : Trace → ℕ → ℕ → Bool
@@ -37,7 +38,7 @@ taken_grant-before t j e = rw e refl
 -- a tenure has a level exactly if one is granted at the instant or at the one before
 pub tenure_level-near_grant : (t : Trace) (j : ℕ) → is_some (tenure_level t j) ≡ near (is_granting t) j
 unfolding tenure_level
-tenure_level-near_grant t j = any-first (λ n. low t (grant n 0) (taken_grant t j)) 0 4
+tenure_level-near_grant t j = is_some-least (λ n. low t (grant n 0) (taken_grant t j)) 0 4
     ∙ (is_granting-any t (taken_grant t j) ∙ by_either_value (is_granting t j)
     (λ e. rw (taken_grant-now t j e, e) (sym (or-true (is_granting t (j - 1)))))
     (λ e. rw (taken_grant-before t j e, e) (sym (or-false (is_granting t (j - 1))))))
@@ -87,7 +88,7 @@ greatest-reached p n some low = by_least (least (λ k. not (p k)) 0 n) refl
         rw (
           e,
           greatest-before_first n some (omega arith) none
-              (any-start (λ k. every p 0 (k + 1)) (n - 1 + 1) n (omega arith)),
+              (any-past (λ k. every p 0 (k + 1)) (n - 1 + 1) n (omega arith)),
         )
         (ap (λ k. Some k) (one_plus-pred n some))
     by_least (Some m) e =

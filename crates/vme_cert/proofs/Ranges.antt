@@ -1,13 +1,13 @@
 -- Tests on numbers, and searches over a range of numbers, also for one number more.
 use Rattle.std.proofs.Common.{◌≡◌, ℕ, ◌+◌, ◌<◌, ◌≤◌, Bool, true, false, ◌&&◌, not, refl, arith, ◌⊎◌, zero, suc}
-use Rattle.std.proofs.Common.{[], ◌∷◌, get_or, sym, ◌∙◌, ap, inl, inr, cond, add-one}
-use Rattle.std.specs.Prelude.{◌==◌, nat_le, nat_lt, Option, None, Some, is_some}
+use Rattle.std.proofs.Common.{[], ◌∷◌, get_or, sym, ◌∙◌, ap, inl, inr, add-one}
+use Rattle.std.specs.Prelude.{◌==◌, nat_le, nat_lt, Option, None, Some}
 use Rattle.std.proofs.lemmas.Bool.Decides.{nat_tests}
 use Rattle.std.proofs.lemmas.Bool.{leb-true, le-leb, ltb-true, lt-ltb, le-ltb, and_parts, and_right}
 use Rattle.std.proofs.Math.Bool.{and-false}
-use Rattle.vme_trace.proofs.Ranges.{any-fails, fails-any, clash, searches, any-holds, any-step, least-found}
-use Rattle.vme_trace.proofs.Ranges.{least-none-any, not_or}
-use Rattle.vme_cert.specs.Vocabulary.{Stretch, any, greatest, is_judged, least, none}
+use Rattle.vme_trace.proofs.Ranges.{any-fails, fails-any, clash, searches, any-holds, any-step}
+use Rattle.vme_trace.proofs.Ranges.{not_or, any-past, cond-cases}
+use Rattle.vme_cert.specs.Vocabulary.{Stretch, any, greatest, is_judged, none}
 
 -- ---- Tests on numbers, and two tests together.
 
@@ -64,11 +64,6 @@ get_or-four_levels q a b c d e f g h (suc (suc (suc (suc n)))) below = absurd (o
 pub none-shorter : (p : ℕ → Bool) (f m n : ℕ) → m ≤ n → any p f n ≡ false → any p f m ≡ false
 none-shorter p f m n h none = fails-any p f m (λ i a b. any-fails p f n i none a (omega arith))
 
--- a choice that gives z gives it by one of its two values
-cond-value : (b : Bool) (x y z : Option ℕ) → cond b x y ≡ z → ((b ≡ true) × (x ≡ z)) ⊎ ((b ≡ false) × (y ≡ z))
-cond-value true x y z h = inl (refl, h)
-cond-value false x y z h = inr (refl, h)
-
 -- options that are equal have equal values
 pub Some-injective : {A : Type 0} (x y : A) → Some x ≡ Some y → x ≡ y
 Some-injective x y h = cc
@@ -78,7 +73,7 @@ pub greatest-none-any : (p : ℕ → Bool) (f n : ℕ) → greatest p f n ≡ No
 unfolding greatest any
 greatest-none-any p f zero e = refl
 greatest-none-any p f (suc n) e =
-    elim (cond-value (nat_le f n && p n) (Some n) (greatest p f n) None e) [
+    elim (cond-cases (nat_le f n && p n) (Some n) (greatest p f n) None e) [
       | inl here ↦ absurd (not_none n here.1)
       | inr none ↦ rw (greatest-none-any p f n none.1, none.0) refl
     ]
@@ -99,7 +94,7 @@ pub greatest-found : (p : ℕ → Bool) (f n i : ℕ) → greatest p f n ≡ Som
 unfolding greatest any
 greatest-found p f zero i e = absurd (cc)
 greatest-found p f (suc n) i e =
-    elim (cond-value (nat_le f n && p n) (Some n) (greatest p f n) (Some i) e) [
+    elim (cond-cases (nat_le f n && p n) (Some n) (greatest p f n) (Some i) e) [
       | inl here ↦
           let same : n ≡ i = Some-injective n i here.1 in
           let both = and_parts (nat_le f n) (p n) here.0 in
@@ -167,21 +162,12 @@ only-last s p f j i found off earlier = by_order (eq-or_below i j found.before)
 
 -- ---- One instant more, or less, of a search.
 
--- in a range that ends where it starts, or before, no number meets `p`
-pub any-start : (p : ℕ → Bool) (f n : ℕ) → n ≤ f → any p f n ≡ false
-any-start p f n h = fails-any p f n (λ i a b. absurd (omega arith))
-
 -- if no number of a range meets `p`, nor the next one, none of the longer range does
 pub any-more : (p : ℕ → Bool) (f n : ℕ) → any p f n ≡ false → p n ≡ false → any p f (n + 1) ≡ false
 any-more p f n none fails = any-step p f n ∙ rw (none, fails) (and-false (nat_le f n))
 
--- there is a least number that meets `p` exactly if some number does
-pub any-first : (p : ℕ → Bool) (f n : ℕ) → is_some (least p f n) ≡ any p f n
-any-first p f n = by_option (least p f n) (λ e. rw e (sym (least-none-any p f n e)))
-    (λ i e. let found = least-found p f n i e in rw e (sym (any-holds p f n i found.first found.below found.holds)))
-
 -- for the goals of a loop that searches a range from its first number on
-pub ruleset steps = (searches, any-start, any-more, none-shorter)
+pub ruleset steps = (searches, any-past, any-more, none-shorter)
 
 -- ---- A range that is longer by one.
 

@@ -3,9 +3,8 @@ use Rattle.std.proofs.Common.{◌≡◌, ℕ, ◌+◌, ◌-◌, ◌≤◌, true,
 use Rattle.vme_trace.specs.Instants.{every, greatest}
 use Rattle.vme_trace.specs.LineNumbers.{grant}
 use Rattle.vme_trace.specs.Levels.{Levels}
-use Rattle.vme_trace.proofs.Ranges.{every-empty, every-more, every-fails}
+use Rattle.vme_trace.proofs.Ranges.{every-empty, every-more, every-fails, greatest-is}
 use Rattle.vme_chains.specs.GrantLevels.{is_low_in, reaches}
-use Rattle.vme_chains.proofs.GrantRanges.{greatest-is}
 
 module _ (v : Levels) (n : ℕ) where
   -- if the first net is low, all nets up to it are

@@ -10,7 +10,7 @@ use Rattle.vme_trace.specs.Trace.{Trace, levels_at}
 use Rattle.vme_trace.specs.Signals.{near, low, high, falls, rises}
 use Rattle.vme_trace.specs.Tenures.{is_granting, grant_falls, taken_grant, tenure_level, tenure_slot, has_reached}
 use Rattle.vme_trace.specs.declared.level.Level.TheVariants.{Unknown}
-use Rattle.vme_trace.proofs.Ranges.{any-alike, every-alike, least-alike, least-found}
+use Rattle.vme_trace.proofs.Ranges.{any-alike, every-alike, least-alike, least-found, greatest-alike}
 use Rattle.vme_trace.proofs.Ranges.{is_some-least}
 use Rattle.vme_trace.proofs.OpenTransfers.{suc-sub-one}
 use Rattle.vme_trace.proofs.StretchEnds.{slots_at}
@@ -18,7 +18,6 @@ use Rattle.vme_chains.specs.GrantLevels.{shown, is_low_in, is_high_in, falls_bet
 use Rattle.vme_chains.specs.GrantLevels.{high_near, requested_in, grant_begins, granted_level, reaches, reached_slot}
 use Rattle.vme_chains.specs.GrantLevels.{taken_at, taken_in, taken_between, is_ungranted}
 use Rattle.vme_chains.specs.GrantMemory.{is_in}
-use Rattle.vme_chains.proofs.GrantRanges.{greatest-alike}
 use Rattle.vme_chains.proofs.GrantLines.{has_line-net}
 
 module _ (t : Trace) where

@@ -12,9 +12,9 @@ use Rattle.vme_trace.specs.Tenures.{last_before}
 use Rattle.vme_trace.specs.declared.level.Level.{Level}
 use Rattle.vme_trace.specs.declared.level.Level.TheVariants.{Low, High, Unknown}
 use Rattle.vme_trace.proofs.Changing.{high_not_low}
-use Rattle.vme_trace.proofs.Ranges.{fails-any, any-next}
+use Rattle.vme_trace.proofs.Ranges.{fails-any, any-next, greatest-below}
 use Rattle.vme_trace.proofs.OpenTransfers.{suc-sub-one}
-use Rattle.vme_dtb.proofs.Searches.{greatest-next, greatest-within}
+use Rattle.vme_dtb.proofs.Searches.{greatest-next}
 
 module _ (t : Trace) (stretch : Stretch) where
   -- the line l is low at n, and a strobe rose at its last fall or after it
@@ -42,7 +42,7 @@ module _ (t : Trace) (stretch : Stretch) where
     where
       by_found : (o : Option ℕ) → greatest p (stretch.start + 1) (suc n) ≡ o → unwrap_or o stretch.start ≤ n
       by_found None e = from
-      by_found (Some i) e = let found = greatest-within p (stretch.start + 1) (suc n) i e in omega (arith, found.1)
+      by_found (Some i) e = omega (arith, greatest-below p (stretch.start + 1) (suc n) i e)
 
   -- a high line isn't one that may rise
   pub may_rise_at-high : (l n : ℕ) → is_high (level_at (levels_at t n) l) ≡ true → false ≡ may_rise_at l n

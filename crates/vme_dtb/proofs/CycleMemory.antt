@@ -12,7 +12,7 @@ use Rattle.vme_trace.specs.Rules.{is_single, is_block_class, is_interrupt, has_e
 use Rattle.vme_trace.specs.Rules.{changes_direction, differ}
 use Rattle.vme_trace.specs.declared.class.Class.{Class}
 use Rattle.vme_trace.specs.declared.class.Class.TheVariants as class
-use Rattle.vme_trace.proofs.Ranges.{greatest-empty, those-empty}
+use Rattle.vme_trace.proofs.Ranges.{greatest-empty, those-empty, greatest-below}
 use Rattle.vme_dtb.specs.CycleState.{unanswered_of, cycle_entered, after_answer, is_read_modify_write_broken}
 use Rattle.vme_dtb.specs.CycleState.{is_direction_changed}
 use Rattle.vme_dtb.specs.CycleState.{is_interrupt_acknowledge, is_answered_interrupt_acknowledge}
@@ -21,7 +21,7 @@ use Rattle.vme_dtb.specs.declared.cycle.CyclePhase.{CyclePhase}
 use Rattle.vme_dtb.specs.declared.cycle.CyclePhase.TheVariants.{Free, Single, SingleRead, SingleDone, Block}
 use Rattle.vme_dtb.specs.declared.cycle.CyclePhase.TheVariants.{BlockReading}
 use Rattle.vme_dtb.specs.declared.cycle.CyclePhase.TheVariants.{BlockWriting, Interrupt, InterruptDone}
-use Rattle.vme_dtb.proofs.Searches.{greatest-next, greatest-within, those-next}
+use Rattle.vme_dtb.proofs.Searches.{greatest-next, those-next}
 
 module _ (t : Trace) (stretch : Stretch) where
   -- the phase of a cycle of the class with answers at these instants
@@ -99,8 +99,7 @@ module _ (t : Trace) (stretch : Stretch) where
   -- the last cycle to start up to j starts at j or before
   cycle_of-within : (j i : ℕ) → cycle_of t stretch j ≡ Some i → i ≤ j
   unfolding cycle_of
-  cycle_of-within j i h = let found = greatest-within (cycle_starts t stretch) (stretch.start + 1) (j + 1) i h in
-      omega (arith, found.1)
+  cycle_of-within j i h = omega (arith, greatest-below (cycle_starts t stretch) (stretch.start + 1) (j + 1) i h)
 
   -- the answers before j + 1 are those before j, and j if it is an answer
   answers_of-next : (i j : ℕ) → i ≤ j → answers_of t stretch i (suc j) ≡ answers_of t stretch i j

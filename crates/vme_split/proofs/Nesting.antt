@@ -19,6 +19,7 @@ use Rattle.vme_trace.specs.Rules.{is_broken, is_option_equal}
 use Rattle.vme_trace.specs.declared.rule.Rule.TheVariants as rule
 use Rattle.vme_trace.proofs.OpenTransfers.{in_transfer-is}
 use Rattle.vme_trace.proofs.Ranges.{every-more, IsLeast, any-fails, fails-any, least-found, least-none-any, clash}
+use Rattle.vme_trace.proofs.Ranges.{greatest-found, greatest-is, past_or_below}
 use Rattle.vme_listing.specs.Recorded.{cycle_rows, transfer_row, answered_row, rows_before}
 use Rattle.vme_listing.specs.declared.row.Row.{Row}
 use Rattle.vme_listing.specs.declared.row.Row.TheVariants as row
@@ -26,7 +27,6 @@ use Rattle.vme_listing.specs.declared.row.Row.TheVariants.{OpenTenure, Tenure}
 use Rattle.vme_listing.proofs.RecordedRows.{slot_within, level_within}
 use Rattle.vme_split.specs.Split.{ShowsGrant, IsOpenAtStart, Interval, interval, Covers, StartsInOne, IsOfASlot}
 use Rattle.vme_split.specs.Split.{IsAnsweredInCycle, AwaitsAnswer, is_traffic, tenure_in, cycle_in, KeepsRules}
-use Rattle.vme_split.proofs.Lists.{past_or_below, greatest-is, greatest-found}
 use Rattle.vme_split.proofs.Intervals.{Covering, Covering-at, least-after_covering}
 use Rattle.vme_split.proofs.Unbroken.{IsUnbroken, is_broken-unbroken}
 use Rattle.vme_split.proofs.Cycles as cycles

@@ -4,7 +4,7 @@ use Rattle.std.proofs.Common.{arith, add-one, inl, inr, ◌⊎◌, cond, subst, 
 use Rattle.std.specs.Prelude.{Option, None, Some, nat_le}
 use Rattle.std.specs.Option.{is_some}
 use Rattle.std.proofs.lemmas.Bool.Decides.{nat_tests}
-use Rattle.std.proofs.lemmas.Bool.{and_parts, and_right, le-leb, leb-true, lt-leb, or_parts}
+use Rattle.std.proofs.lemmas.Bool.{and_parts, and_right, cases_Bool, le-leb, leb-true, lt-leb, or_parts}
 use Rattle.vme_trace.specs.Instants.{any, every, greatest, least, those}
 
 -- p holds of some number of a range with n at its end just if it does of one of the range without n, or of n, if n is
@@ -36,8 +36,12 @@ any-suc_fails : (p : ℕ → Bool) (f n i : ℕ) (a : Bool) → (a || (nat_le f 
 any-suc_fails p f n i a none in_range below rest = grind (arith, nat_tests)
 
 -- a number before n + 1 is n, or before it
-last_or_before : (n i : ℕ) → i < suc n → (i ≡ n) ⊎ (i < n)
+pub last_or_before : (n i : ℕ) → i < suc n → (i ≡ n) ⊎ (i < n)
 last_or_before n i h = grind arith
+
+-- a number is n or more, or below n
+pub past_or_below : (a n : ℕ) → (n ≤ a) ⊎ (a < n)
+past_or_below a n = grind arith
 
 -- where p holds of a number of the range, so does the test of both
 and-in_range : (p : ℕ → Bool) (f i : ℕ) → f ≤ i → p i ≡ true → (nat_le f i && p i) ≡ true
@@ -71,6 +75,10 @@ fails-any p f (suc n) h = rw (
       (λ a. h n a (omega arith)),
 ) refl
 
+-- in a range that ends where it begins, or before, p holds of no number
+pub any-past : (p : ℕ → Bool) (f n : ℕ) → n ≤ f → any p f n ≡ false
+any-past p f n h = fails-any p f n (λ i a b. absurd (omega arith))
+
 -- in an empty range p holds of no number
 pub any-empty : (p : ℕ → Bool) (f : ℕ) → any p f 0 ≡ false
 unfolding any
@@ -102,8 +110,12 @@ least-none p f zero none = refl
 least-none p f (suc n) none = least-suc_none _ _ _ _ (least-none p f n (or_parts _ _ none).0) (or_parts _ _ none).0
     (or_parts _ _ none).1
 
+-- a range that ends where it begins, or before, has no least number
+pub least-past : (p : ℕ → Bool) (f n : ℕ) → n ≤ f → least p f n ≡ None
+least-past p f n h = least-none p f n (any-past p f n h)
+
 -- a choice is its first part where the test holds, else its second
-cond-cases : (b : Bool) (x y z : Option ℕ) → cond b x y ≡ z → ((b ≡ true) × (x ≡ z)) ⊎ ((b ≡ false) × (y ≡ z))
+pub cond-cases : (b : Bool) (x y z : Option ℕ) → cond b x y ≡ z → ((b ≡ true) × (x ≡ z)) ⊎ ((b ≡ false) × (y ≡ z))
 cond-cases true x y z h = inl (refl, h)
 cond-cases false x y z h = inr (refl, h)
 
@@ -226,6 +238,87 @@ every-more p f n so_far here = ap not (any-step (λ k. not (p k)) f n) ∙ more 
     more true b c h k = absurd (cc)
     more false true c h k = rw k refl
     more false false c h k = refl
+
+-- where p holds of n, n is the greatest number up to n
+pub greatest-here : (p : ℕ → Bool) (f n : ℕ) → f ≤ n → p n ≡ true → greatest p f (suc n) ≡ Some n
+unfolding greatest
+greatest-here p f n from h = rw (and-in_range p f n from h) refl
+
+-- where p doesn't hold of n, the greatest number up to n is the one below n
+pub greatest-skip : (p : ℕ → Bool) (f n : ℕ) → p n ≡ false → greatest p f (suc n) ≡ greatest p f n
+unfolding greatest
+greatest-skip p f n h = rw (and_right (nat_le f n) (p n) h) refl
+
+-- a number of which p holds, and of none after it in the range, is the greatest
+pub greatest-is : (p : ℕ → Bool) (f n i : ℕ) → f ≤ i → i < n → p i ≡ true → ((k : ℕ) → i < k → k < n → p k ≡ false)
+    → greatest p f n ≡ Some i
+greatest-is p f zero i from below h none = absurd (omega arith)
+greatest-is p f (suc n) i from below h none =
+    elim (last_or_before n i below) [
+      | inl e ↦ rw (← e) (greatest-here p f i from h)
+      | inr b ↦ greatest-skip p f n (none n b (omega arith)) ∙ greatest-is p f n i from b h
+          (λ k x y. none k x (omega arith))
+    ]
+
+-- where p and q agree in the range, so do `greatest` of p and of q
+pub greatest-alike : (p q : ℕ → Bool) (f n : ℕ) → ((i : ℕ) → f ≤ i → i < n → p i ≡ q i) → greatest p f n
+    ≡ greatest q f n
+unfolding greatest
+greatest-alike p q f zero alike = refl
+greatest-alike p q f (suc n) alike =
+    rw (
+      and-in_range_alike p q f n (λ a. alike n a (omega arith)),
+      greatest-alike p q f n
+          (λ i a b. alike i a (omega arith)),
+    )
+    refl
+
+-- where p holds of some number of the range, there is a greatest one
+pub greatest-some : (p : ℕ → Bool) (f n i : ℕ) → f ≤ i → i < n → p i ≡ true → (k : ℕ) × (greatest p f n ≡ Some k)
+greatest-some p f zero i from below h = absurd (omega arith)
+greatest-some p f (suc n) i from below h = elim (cases_Bool (p n)) [
+  | inl now ↦ (n, greatest-here p f n (omega arith) now)
+  | inr off ↦ elim (last_or_before n i below) [
+    | inl same ↦ absurd (clash (p i) h (ap p same ∙ off))
+    | inr before ↦ let earlier = greatest-some p f n i from before h in (earlier.0, greatest-skip p f n off ∙ earlier.1)
+  ]
+]
+
+-- i is the greatest number of the range of which p holds
+pub record IsGreatest (p : ℕ → Bool) (f n i : ℕ) : Type 0 where
+  pub first : f ≤ i
+  pub below : i < n
+  pub holds : p i ≡ true
+  pub none : (k : ℕ) → i < k → k < n → p k ≡ false
+
+-- what `greatest` finds is the greatest number of the range of which p holds
+pub greatest-found : (p : ℕ → Bool) (f n i : ℕ) → greatest p f n ≡ Some i → IsGreatest p f n i
+unfolding greatest
+greatest-found p f zero i e = absurd (cc)
+greatest-found p f (suc n) i e = elim (past_or_below n f) [
+  | inl from ↦ elim (cases_Bool (p n)) [
+    | inl now ↦
+        let same : Some n ≡ Some i = sym (greatest-here p f n from now) ∙ e in
+        let is : n ≡ i = cc in
+        record {
+          first = omega arith;
+          below = omega arith;
+          holds = ap p (sym is) ∙ now;
+          none = λ k a b. absurd
+              (omega arith);
+        }
+    | inr off ↦
+        let earlier = greatest-found p f n i (sym (greatest-skip p f n off) ∙ e) in
+        record {
+          first = earlier.first;
+          below = omega (arith, earlier.below);
+          holds = earlier.holds;
+          none = λ k a b.
+              elim (last_or_before n k b) [ inl same ↦ ap p same ∙ off | inr before ↦ earlier.none k a before ];
+        }
+  ]
+  | inr late ↦ let nothing : None ≡ Some i = sym (greatest-empty p f (suc n) (omega arith)) ∙ e in absurd (cc)
+]
 
 -- neither a nor b is a way to say not a and not b
 pub not_or : (a b : Bool) → not (a || b) ≡ (not a && not b)
