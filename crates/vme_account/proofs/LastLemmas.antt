@@ -12,9 +12,8 @@ use Rattle.vme_trace.specs.Levels.{Levels, is_high, is_low}
 use Rattle.vme_trace.specs.LineNumbers.{AS, BERR, DTACK, line_count}
 use Rattle.vme_trace.specs.Trace.{Trace, changed, levels_at, time_at}
 use Rattle.vme_trace.specs.declared.level.Level.{Level}
-use Rattle.vme_trace.specs.declared.level.Level.TheVariants.{High, Low, Unknown}
 use Rattle.vme_trace.specs.declared.step.Change.{Change}
-use Rattle.vme_trace.proofs.Changing.{level-kept, slots-kept}
+use Rattle.vme_trace.proofs.Changing.{level-kept, slots-kept, not_high_and_low, not_low_and_high}
 use Rattle.vme_trace.proofs.Ranges.{greatest-empty, least-past}
 use Rattle.vme_account.proofs.EventLemmas.{greatest-not_at_next, greatest-at_next}
 use Rattle.vme_account.proofs.EventLemmas.{since-before, since-now}
@@ -28,18 +27,6 @@ use Rattle.vme_account.specs.declared.related_event.StepEvent.TheVariants.{Answe
 
 -- ---- an edge is one of a line that changes
 
--- a level isn't both high and low
-is_high-no_fall : (x : Level) → (is_high x && is_low x) ≡ false
-is_high-no_fall Low = refl
-is_high-no_fall High = refl
-is_high-no_fall Unknown = refl
-
--- a level isn't both low and high
-is_low-no_rise : (x : Level) → (is_low x && is_high x) ≡ false
-is_low-no_rise Low = refl
-is_low-no_rise High = refl
-is_low-no_rise Unknown = refl
-
 -- a line that isn't changed is shown with the same level
 shown_on-unchanged : (v : Levels) (cs : List Change) (l : ℕ) → is_changed cs l ≡ false → shown_on (changed v cs) l
     ≡ shown_on v l
@@ -49,13 +36,13 @@ shown_on-unchanged v cs l h = rw (slots-kept v cs, level-kept v cs l h) refl
 falls_shown-unchanged : (v : Levels) (cs : List Change) (l : ℕ) → is_changed cs l ≡ false
     → falls_shown v (changed v cs) l ≡ false
 falls_shown-unchanged v cs l h = ap (λ (x : Level). is_high (shown_on v l) && is_low x) (shown_on-unchanged v cs l h)
-    ∙ is_high-no_fall (shown_on v l)
+    ∙ not_high_and_low (shown_on v l)
 
 -- a line that isn't changed doesn't rise
 rises_shown-unchanged : (v : Levels) (cs : List Change) (l : ℕ) → is_changed cs l ≡ false
     → rises_shown v (changed v cs) l ≡ false
 rises_shown-unchanged v cs l h = ap (λ (x : Level). is_low (shown_on v l) && is_high x) (shown_on-unchanged v cs l h)
-    ∙ is_low-no_rise (shown_on v l)
+    ∙ not_low_and_high (shown_on v l)
 
 -- ---- the places of the lines
 

@@ -16,9 +16,8 @@ use Rattle.vme_trace.specs.Trace.{changed}
 use Rattle.vme_trace.specs.WellFormed.{are_changes}
 use Rattle.vme_trace.specs.declared.level.Level.{Level}
 use Rattle.vme_trace.specs.declared.step.Change.{Change}
-use Rattle.vme_trace.proofs.Changing.{level-kept, slots-kept, exists_below}
+use Rattle.vme_trace.proofs.Changing.{level-kept, slots-kept, exists_below, not_high_and_low, not_low_and_high}
 use Rattle.vme_trace.proofs.Ranges.{any-holds, any-least, clash, least-found}
-use Rattle.vme_dtb.proofs.StillSteps.{not_high_and_low, not_low_and_high}
 use Rattle.vme_auditor.specs.Events.{net_falls, net_rises}
 use Rattle.vme_auditor.proofs.Truth.{or_swapped}
 

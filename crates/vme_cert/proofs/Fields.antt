@@ -7,7 +7,7 @@ use Rattle.std.proofs.lemmas.Bool.Decides.{nat_tests}
 use Rattle.std.specs.Option.{option_map_or}
 use Rattle.std.proofs.lemmas.Bool.{le-leb, ltb-true, ltb-false, and_parts, and_from, not-false, not-true, or_parts}
 use Rattle.std.proofs.lemmas.Bool.{cases_lt}
-use Rattle.vme_trace.proofs.OpenTransfers.{in_transfer-is, ReadsStrobes}
+use Rattle.vme_trace.proofs.OpenTransfers.{in_transfer-is, ReadsStrobes, both_high-none_low}
 use Rattle.vme_trace.proofs.Ranges.{any-holds, fails-any, any-step, any-fails, clash, any-least, least-found, any-past}
 use Rattle.vme_trace.proofs.Ranges.{greatest-empty, not_or, those-empty}
 use Rattle.vme_trace.proofs.JudgedStretches.{stretch_reads}
@@ -33,14 +33,6 @@ use Rattle.vme_cert.proofs.Instant.{known-AS}
 
 -- ---- The transfer of an instant: the last to start, while no instant since then had both strobes high.
 
--- two lines that are high aren't low, neither of them
-pub not-high_and_low : (x y : Level) → (is_high x && is_high y) ≡ true → (is_low x || is_low y) ≡ true → ⊥
-not-high_and_low High High h k = cc
-not-high_and_low High Low h k = cc
-not-high_and_low High Unknown h k = cc
-not-high_and_low Low y h k = cc
-not-high_and_low Unknown y h k = cc
-
 module _ (t : Trace) (stretch : Stretch) where
   -- between the starts of two transfers both strobes are high
   pub strobes_high-between : (i k : ℕ) → i < k → transfer_starts t stretch i ≡ true → transfer_starts t stretch k ≡ true
@@ -48,7 +40,7 @@ module _ (t : Trace) (stretch : Stretch) where
   unfolding transfer_starts low high
   strobes_high-between i k order first second =
       elim (just-or-later i k order) [
-        | inl e ↦ absurd (not-high_and_low (level t DS0 i) (level t DS1 i)
+        | inl e ↦ absurd (both_high-none_low (level t DS0 i) (level t DS1 i)
             (ap (strobes_high t) (sym e) ∙ strobes_high-before_second)
             (and_parts (is_judged stretch i && strobes_high t (i - 1)) _ first).1)
         | inr past ↦ any-holds (strobes_high t) (i + 1) k (k - 1) (omega arith) (omega arith) strobes_high-before_second
@@ -844,7 +836,7 @@ module _ (t : Trace) (stretch : Stretch) (is : IsStretchOf t stretch) where
   unfolding transfer_starts low high
   any-strobe_rises_until_high i k start before end high_there =
       by_either_value (any (strobe_rises t) (i + 1) (k + 1)) (λ e. e) (λ none. absurd
-      (not-high_and_low (level t DS0 k) (level t DS1 k) high_there
+      (both_high-none_low (level t DS0 k) (level t DS1 k) high_there
       (by_low (low t DS0 i) (low t DS1 i) start_parts.1 refl refl (no_rise_between none))))
     where
       -- the levels of both strobes are read throughout the stretch

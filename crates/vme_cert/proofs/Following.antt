@@ -11,6 +11,7 @@ use Rattle.vme_trace.proofs.Ranges.{least-none-any}
 use Rattle.vme_trace.specs.declared.class.Class.TheVariants as class
 use Rattle.vme_trace.proofs.ListLaws.{slice_get-append}
 use Rattle.vme_trace.proofs.Unjudged.{is_judged-early}
+use Rattle.vme_trace.proofs.OpenTransfers.{both_high-none_low}
 use Rattle.vme_listing.specs.declared.row.Row.TheVariants as variant
 use Rattle.vme_cert.specs.Vocabulary.{AnswerLine, Berr, DS0, DS1, DTACK, Direction, Dtack, Lanes, One, Read, Row, Start}
 use Rattle.vme_cert.specs.Vocabulary.{Stretch, Three, Trace, Two, Version, Write, answer_falls, answered_row, answers}
@@ -35,7 +36,6 @@ use Rattle.vme_cert.specs.declared.state.Transfer.{Transfer}
 use Rattle.vme_cert.proofs.Comparing.{IsCompared-begun, compare_row-compared, compare_row-given, IsCompared-more_open}
 use Rattle.vme_cert.proofs.Comparing.{IsCompared-more}
 use Rattle.vme_cert.proofs.Fields.{falls-not_if_low, low-next_instant, answers-is, is_answer-is, transfer_starts-is}
-use Rattle.vme_cert.proofs.Fields.{not-high_and_low}
 use Rattle.vme_cert.proofs.Fields.{strobes_high-between, is_answer-by_fields, falls-low, falls-not_if_rises}
 use Rattle.vme_cert.proofs.Placing.{expected_to-cycle, count_before-next, rows_in-row_after, rows_in-append}
 use Rattle.vme_cert.proofs.Placing.{rows_in-length}
@@ -439,7 +439,7 @@ module _ (t : Trace) (stretch : Stretch) where
             by_order : (h.start < j) ⊎ (j ≤ h.start) → h.start < j
             by_order (inl less) = less
             by_order (inr from) = let e : h.start ≡ j = omega arith in
-                absurd (not-high_and_low (level t DS0 j) (level t DS1 j) high
+                absurd (both_high-none_low (level t DS0 j) (level t DS1 j) high
                 (ap (λ k. low t DS0 k || low t DS1 k) (sym e)
                 ∙ (and_parts (is_judged stretch h.start && strobes_high t (h.start - 1)) _ starts).1))
 

@@ -8,14 +8,12 @@ use Rattle.std.proofs.Math.Bool.{and-false, and-true}
 use Rattle.vme_trace.specs.Edges.{falls_between, low_near}
 use Rattle.vme_trace.specs.Instants.{least}
 use Rattle.vme_trace.specs.LineNumbers.{input_of}
-use Rattle.vme_trace.specs.Levels.{Levels, level_at, is_low, is_high}
+use Rattle.vme_trace.specs.Levels.{Levels, level_at}
 use Rattle.vme_trace.specs.Trace.{changed}
 use Rattle.vme_trace.specs.Changes.{first_changed, is_changed}
-use Rattle.vme_trace.specs.declared.level.Level.{Level}
-use Rattle.vme_trace.specs.declared.level.Level.TheVariants.{Low, High, Unknown}
 use Rattle.vme_trace.specs.declared.step.Change.{Change}
 use Rattle.vme_trace.proofs.Ranges.{fails-any, least-none, least-alike}
-use Rattle.vme_trace.proofs.Changing.{level-kept}
+use Rattle.vme_trace.proofs.Changing.{level-kept, not_high_and_low}
 use Rattle.vme_chains.specs.AcknowledgeRules.{passes_on, passes_unasked}
 
 -- the least line with p where b holds is the least line with p if b holds, and else there is none
@@ -24,15 +22,9 @@ least-when p true n = least-alike (λ l. p l && true) p 0 n (λ l from to. and-t
 least-when p false n = least-none (λ l. p l && false) 0 n (fails-any (λ l. p l && false) 0 n
     (λ l from to. and-false (p l)))
 
--- a level isn't both high and low
-pub is_high-no_fall : (x : Level) → (is_high x && is_low x) ≡ false
-is_high-no_fall Low = refl
-is_high-no_fall High = refl
-is_high-no_fall Unknown = refl
-
 -- a line that isn't changed doesn't fall
 pub falls_between-unchanged : (v w : Levels) (l : ℕ) → level_at w l ≡ level_at v l → falls_between v w l ≡ false
-falls_between-unchanged v w l e = rw e (is_high-no_fall (level_at v l))
+falls_between-unchanged v w l e = rw e (not_high_and_low (level_at v l))
 
 -- a slot whose output isn't changed doesn't pass an acknowledge on
 pub passes_on-unchanged : (v : Levels) (cs : List Change) (l : ℕ) → is_changed cs l ≡ false

@@ -6,10 +6,8 @@ use Rattle.vme_trace.specs.LineNumbers.{has_line, is_slot_grant, input_of, grant
 use Rattle.vme_trace.specs.Levels.{Levels, is_low, is_high}
 use Rattle.vme_trace.specs.Changes.{is_changed}
 use Rattle.vme_trace.specs.Trace.{changed}
-use Rattle.vme_trace.specs.declared.level.Level.{Level}
-use Rattle.vme_trace.specs.declared.level.Level.TheVariants.{Low, High, Unknown}
 use Rattle.vme_trace.specs.declared.step.Change.{Change}
-use Rattle.vme_trace.proofs.Changing.{slots-kept, level-kept}
+use Rattle.vme_trace.proofs.Changing.{slots-kept, level-kept, not_high_and_low, not_low_and_high}
 use Rattle.vme_chains.specs.GrantLevels.{shown, falls_between, rises_between}
 
 -- a line that isn't changed keeps its level
@@ -17,25 +15,19 @@ pub shown-unchanged : (v : Levels) (cs : List Change) (l : ℕ) → is_changed c
     ≡ shown v l
 shown-unchanged v cs l h = rw (slots-kept v cs, level-kept v cs l h) refl
 
--- a level isn't both high and low
-is_high-no_edge : (x : Level) → ((is_high x && is_low x) ≡ false) × ((is_low x && is_high x) ≡ false)
-is_high-no_edge Low = (refl, refl)
-is_high-no_edge High = (refl, refl)
-is_high-no_edge Unknown = (refl, refl)
-
 -- a line that isn't changed doesn't fall
 pub falls_between-changed_elsewhere : (v : Levels) (cs : List Change) (l : ℕ) → is_changed cs l ≡ false
     → falls_between v (changed v cs) l
     ≡ false
 falls_between-changed_elsewhere v cs l h =
-    ap (λ x. is_high (shown v l) && is_low x) (shown-unchanged v cs l h) ∙ (is_high-no_edge (shown v l)).0
+    ap (λ x. is_high (shown v l) && is_low x) (shown-unchanged v cs l h) ∙ not_high_and_low (shown v l)
 
 -- a line that isn't changed doesn't rise
 pub rises_between-changed_elsewhere : (v : Levels) (cs : List Change) (l : ℕ) → is_changed cs l ≡ false
     → rises_between v (changed v cs) l
     ≡ false
 rises_between-changed_elsewhere v cs l h =
-    ap (λ x. is_low (shown v l) && is_high x) (shown-unchanged v cs l h) ∙ (is_high-no_edge (shown v l)).1
+    ap (λ x. is_low (shown v l) && is_high x) (shown-unchanged v cs l h) ∙ not_low_and_high (shown v l)
 
 -- a backplane has the nets of its grant chains
 pub has_line-net : (slots n k : ℕ) → n < 4 → k ≤ slots → slots ≤ 21 → has_line slots (grant n k) ≡ true

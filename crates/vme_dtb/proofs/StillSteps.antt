@@ -16,6 +16,7 @@ use Rattle.vme_trace.specs.declared.level.Level.{Level}
 use Rattle.vme_trace.specs.declared.level.Level.TheVariants.{Low, High, Unknown}
 use Rattle.vme_trace.specs.declared.rule.Rule.TheVariants.{H2, H3, H4, H5, H7, H8}
 use Rattle.vme_trace.specs.declared.step.Change.{Change}
+use Rattle.vme_trace.proofs.Changing.{not_high_and_low, not_low_and_high}
 use Rattle.vme_monitor.specs.Run.{machine_step, no_step_marks, quiet}
 use Rattle.vme_monitor.specs.Tracked.{IsTransferPhase}
 use Rattle.vme_monitor.specs.Tracking.{answered_by, entered, is_unanswered, is_within, is_writing, tracked}
@@ -48,18 +49,6 @@ same_level-equal High Unknown h = absurd (cc)
 same_level-equal Unknown Low h = absurd (cc)
 same_level-equal Unknown High h = absurd (cc)
 same_level-equal Unknown Unknown h = refl
-
--- no level is high and low
-pub not_high_and_low : (x : Level) → (is_high x && is_low x) ≡ false
-not_high_and_low Low = refl
-not_high_and_low High = refl
-not_high_and_low Unknown = refl
-
--- no level is low and high
-pub not_low_and_high : (x : Level) → (is_low x && is_high x) ≡ false
-not_low_and_high Low = refl
-not_low_and_high High = refl
-not_low_and_high Unknown = refl
 
 -- two levels aren't both high, and one of them low
 pub not_high_and_one_low : (x y : Level) → ((is_high x && is_high y) && (is_low x || is_low y)) ≡ false

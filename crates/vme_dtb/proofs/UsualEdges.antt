@@ -7,13 +7,14 @@ use Rattle.vme_trace.specs.LineNumbers.{AS, DS0, DS1, DTACK, BERR, WRITE}
 use Rattle.vme_trace.specs.Levels.{Levels, level_at, is_low, is_high}
 use Rattle.vme_trace.specs.declared.level.Level.{Level}
 use Rattle.vme_trace.specs.declared.level.Level.TheVariants.{Low, High, Unknown}
+use Rattle.vme_trace.proofs.Changing.{not_high_and_low, not_low_and_high}
 use Rattle.vme_monitor.specs.Run.{no_step_marks}
 use Rattle.vme_monitor.specs.declared.mark.CycleStart.{CycleStart}
 use Rattle.vme_dtb.specs.Edge.{cycle_start_of, edges_between, closes_between, first_of, is_addressed}
 use Rattle.vme_dtb.specs.Edge.{is_answer_not_high, stays_on}
 use Rattle.vme_dtb.specs.UsualSteps.{is_answer_alone, is_start_alone, is_strobes_alone}
 use Rattle.vme_dtb.specs.declared.edges.Edges.{Edges}
-use Rattle.vme_dtb.proofs.StillSteps.{and-five_parts, edges_by_tests, not_high_and_low, not_low_and_high}
+use Rattle.vme_dtb.proofs.StillSteps.{and-five_parts, edges_by_tests}
 use Rattle.vme_dtb.proofs.StillSteps.{not_high_and_one_low, same_level-equal}
 
 -- the edges of a step that has none, while AS* is low

@@ -7,7 +7,7 @@ use Rattle.std.proofs.Math.Nat.{div-div-eq-div-mul, pow-suc, pow-succ'}
 use Rattle.std.proofs.lemmas.Bool.Decides.{nat_tests}
 use Rattle.std.proofs.lemmas.Bool.{eqb-true, eqb-false}
 use Rattle.vme_trace.specs.Instants.{least}
-use Rattle.vme_trace.specs.LineNumbers.{AS, IACK, AM, has_line}
+use Rattle.vme_trace.specs.LineNumbers.{AS, IACK, AM}
 use Rattle.vme_trace.specs.Cycle.{class_of, has_known_modifier, is_modifier_bit_known, is_block, is_extended}
 use Rattle.vme_trace.specs.Cycle.{is_standard, is_short, is_within, is_needed, modifier_bit, modifier_of, needs_of}
 use Rattle.vme_trace.specs.Cycle.{highest_address}
@@ -24,6 +24,7 @@ use Rattle.vme_trace.specs.declared.data.Lanes.{Lanes}
 use Rattle.vme_trace.specs.declared.level.Level.{Level}
 use Rattle.vme_trace.specs.declared.level.Level.TheVariants.{Low, High, Unknown}
 use Rattle.vme_trace.proofs.Ranges.{fails-any}
+use Rattle.vme_trace.proofs.Changing.{bus_line_exists}
 use Rattle.vme_listing.specs.Recorded.{address_to, cycle_row, rows_before}
 use Rattle.vme_listing.specs.declared.row.AnswerLine.{AnswerLine}
 use Rattle.vme_listing.specs.declared.row.Direction.{Direction}
@@ -147,10 +148,6 @@ ShowNumber-known t i line count k = (
 
 -- ---- the lines that a cycle needs
 
--- every backplane has the lines below 50
-has_line-below_50 : (slots l : ℕ) → l < 50 → has_line slots l ≡ true
-has_line-below_50 slots l h = grind (arith, nat_tests)
-
 -- the lines of the modifier are among those that are needed where the modifier is
 is_within-modifier : (k n : ℕ) → n < 6 → is_within (record { modifier = true; highest = k }) (6 + n) ≡ true
 is_within-modifier k n h = grind (arith, nat_tests)
@@ -256,7 +253,7 @@ module _ (t : Trace) (stretch : Stretch) (end : ℕ) (most : end ≤ stretch.end
   known-needed i before starts l few needed = by (cycle_starts t stretch i) (is_needed (levels_at t i) l) (known t l i)
       starts needed (is_broken-unbroken t stretch end most unbroken rule.U2 i l (cycle_starts-after i starts) before
       (omega (arith, few))
-      (has_line-below_50 t.opening.slots l few))
+      (bus_line_exists t.opening.slots l few))
     where
       by : (a b c : Bool) → a ≡ true → b ≡ true → (a && b && not c) ≡ false → c ≡ true
       by true true true h k e = refl

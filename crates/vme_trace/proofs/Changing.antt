@@ -58,6 +58,18 @@ high_not_low Low h = absurd (cc)
 high_not_low High h = refl
 high_not_low Unknown h = refl
 
+-- no level is high and low
+pub not_high_and_low : (x : Level) → (is_high x && is_low x) ≡ false
+not_high_and_low Low = refl
+not_high_and_low High = refl
+not_high_and_low Unknown = refl
+
+-- no level is low and high
+pub not_low_and_high : (x : Level) → (is_low x && is_high x) ≡ false
+not_low_and_high Low = refl
+not_low_and_high High = refl
+not_low_and_high Unknown = refl
+
 -- an idle bus isn't reset
 pub idle-unreset : (v : Levels) → is_idle v ≡ true → is_reset v ≡ false
 idle-unreset v idle = high_not_low (level_at v SYSRESET) (is_idle_on-each v SYSRESET idle (omega arith))
