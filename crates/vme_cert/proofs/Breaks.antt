@@ -1,7 +1,7 @@
 -- Which rules may be broken on a line, and where no rule is broken at an instant.
 use Rattle.std.proofs.Common.{◌≡◌, ℕ, suc, ◌<◌, Bool, true, false, ◌||◌, not, List, [], ◌∷◌, get_or, length, refl, sym}
 use Rattle.std.proofs.Common.{◌∙◌, arith, ◌+◌, ◌-◌, ◌≤◌, ◌&&◌, ap, subst}
-use Rattle.std.specs.Prelude.{◌==◌, nat_le, nat_lt, if◌then◌else◌, None, Some}
+use Rattle.std.specs.Prelude.{◌==◌, nat_le, nat_lt, None, Some}
 use Rattle.std.specs.List.{list_any}
 use Rattle.std.proofs.lemmas.Bool.{agree_below, agree_below_at, ltb-true, eqb-true, and_parts, eq-eqb}
 use Rattle.std.proofs.lemmas.Bool.{not-false, not-true, or_parts}
@@ -11,12 +11,13 @@ use Rattle.vme_trace.proofs.EveryRule.{every-rule, same-rule}
 use Rattle.vme_trace.proofs.Ranges.{any-fails, fails-any, is_some-least}
 use Rattle.vme_trace.proofs.Changing.{level-kept}
 use Rattle.vme_trace.proofs.StretchEnds.{slots_at}
+use Rattle.vme_trace.proofs.HighestAddress.{highest_address-bound}
 use Rattle.vme_cert.specs.Vocabulary.{A, BERR, Change, Class, DS0, DS1, DTACK, H1, High, LWORD, Level, Levels, Low}
 use Rattle.vme_cert.specs.Vocabulary.{Rule, S1, S3, Stretch, Trace, U1, U2, U3, U4, Unknown, WRITE, any, break_at}
 use Rattle.vme_cert.specs.Vocabulary.{breaks, class_of, cycle_runs, cycle_starts, ends_stretch, every, falls, has_edge}
-use Rattle.vme_cert.specs.Vocabulary.{has_line, high, highest_address, is_answer, is_broken, is_changed, is_extended}
-use Rattle.vme_cert.specs.Vocabulary.{is_high, is_judged, is_known_on, is_low, is_needed, is_selected, is_short}
-use Rattle.vme_cert.specs.Vocabulary.{is_standard, known, least, level, level_at, levels_at, line_count, low}
+use Rattle.vme_cert.specs.Vocabulary.{has_line, high, is_answer, is_broken, is_changed}
+use Rattle.vme_cert.specs.Vocabulary.{is_high, is_judged, is_known_on, is_low, is_needed, is_selected}
+use Rattle.vme_cert.specs.Vocabulary.{known, least, level, level_at, levels_at, line_count, low}
 use Rattle.vme_cert.specs.Vocabulary.{modifier_of, needs_of, none, rises, rule_break, rule_number, same_level, time_at}
 use Rattle.vme_cert.specs.Vocabulary.{transfer_starts}
 use Rattle.vme_cert.specs.RulesByLine.{may_be_broken_on, needs_edge, rules_on}
@@ -74,18 +75,6 @@ may_be_broken-listed l r below its_line = listed_by_number (rules_on l) (listed-
         by_test false e h later = let (k, below, at) = later h in (suc k, omega arith, at)
 
 -- ---- A rule isn't broken on a line of which it doesn't speak.
-
--- the highest address line is at most 31
-highest_address-bound : (code : ℕ) → highest_address code ≤ 31
-unfolding highest_address
-highest_address-bound code = by_tests (is_extended code) (is_standard code) (is_short code)
-  where
-    -- by the three kinds of address
-    by_tests : (a b c : Bool) → (if a then 31 else if b then 23 else if c then 15 else 0) ≤ 31
-    by_tests true b c = omega arith
-    by_tests false true c = omega arith
-    by_tests false false true = omega arith
-    by_tests false false false = omega arith
 
 -- the highest address line that a cycle needs is at most 31
 pub needs_of-highest_bound : (v : Levels) → (needs_of v).highest ≤ 31

@@ -5,31 +5,19 @@ use Rattle.std.proofs.lemmas.Bool.Decides.{nat_tests}
 use Rattle.vme_trace.specs.LineNumbers.{AM, IACK}
 use Rattle.vme_trace.specs.Levels.{Levels, level_at, is_low, is_known}
 use Rattle.vme_trace.specs.Cycle.{Needs, is_within, needs_of, class_of, modifier_of, modifier_bit, highest_address}
-use Rattle.vme_trace.specs.Cycle.{has_known_modifier, is_modifier_bit_known, is_block, is_extended, is_standard}
-use Rattle.vme_trace.specs.Cycle.{is_short}
+use Rattle.vme_trace.specs.Cycle.{has_known_modifier, is_modifier_bit_known, is_block}
 use Rattle.vme_trace.specs.declared.class.Class.{Class}
 use Rattle.vme_trace.specs.declared.class.Class.TheVariants as class
 use Rattle.vme_trace.proofs.Ranges.{clash, every-alike}
-
--- 31, 23, 15 and 0 are at most 31
-highest-by_tests : (a b c : Bool) → (if a then 31 else if b then 23 else if c then 15 else 0) ≤ 31
-highest-by_tests true b c = lit≤ tt
-highest-by_tests false true c = lit≤ tt
-highest-by_tests false false true = lit≤ tt
-highest-by_tests false false false = lit≤ tt
-
--- the highest address line of a code is at most A31
-highest_address-below : (code : ℕ) → highest_address code ≤ 31
-unfolding highest_address
-highest_address-below code = highest-by_tests (is_extended code) (is_standard code) (is_short code)
+use Rattle.vme_trace.proofs.HighestAddress.{highest_address-bound}
 
 -- the highest address line that a cycle needs is at most A31
 needs_of-highest : (v : Levels) (c : Class) → class_of v ≡ c → (needs_of v).highest ≤ 31
 unfolding needs_of
 needs_of-highest v class.I e = rw e (lit≤ tt)
 needs_of-highest v class.F e = rw e (lit≤ tt)
-needs_of-highest v class.S e = rw e (highest_address-below (modifier_of v))
-needs_of-highest v class.K e = rw e (highest_address-below (modifier_of v))
+needs_of-highest v class.S e = rw e (highest_address-bound (modifier_of v))
+needs_of-highest v class.K e = rw e (highest_address-bound (modifier_of v))
 
 -- a needed line is below 45, one after A31
 is_within-below : (needs : Needs) (l : ℕ) → needs.highest ≤ 31 → is_within needs l ≡ true → l < 45

@@ -8,8 +8,8 @@ use Rattle.std.proofs.lemmas.Bool.Decides.{nat_tests}
 use Rattle.std.proofs.lemmas.Bool.{eqb-true, eqb-false}
 use Rattle.vme_trace.specs.Instants.{least}
 use Rattle.vme_trace.specs.LineNumbers.{AS, IACK, AM}
-use Rattle.vme_trace.specs.Cycle.{class_of, has_known_modifier, is_modifier_bit_known, is_block, is_extended}
-use Rattle.vme_trace.specs.Cycle.{is_standard, is_short, is_within, is_needed, modifier_bit, modifier_of, needs_of}
+use Rattle.vme_trace.specs.Cycle.{class_of, has_known_modifier, is_modifier_bit_known, is_block}
+use Rattle.vme_trace.specs.Cycle.{is_within, is_needed, modifier_bit, modifier_of, needs_of}
 use Rattle.vme_trace.specs.Cycle.{highest_address}
 use Rattle.vme_trace.specs.Levels.{Levels, is_low, is_high, is_known, is_high_on, level_at}
 use Rattle.vme_trace.specs.Trace.{Trace, levels_at}
@@ -25,6 +25,7 @@ use Rattle.vme_trace.specs.declared.level.Level.{Level}
 use Rattle.vme_trace.specs.declared.level.Level.TheVariants.{Low, High, Unknown}
 use Rattle.vme_trace.proofs.Ranges.{fails-any}
 use Rattle.vme_trace.proofs.Changing.{bus_line_exists}
+use Rattle.vme_trace.proofs.HighestAddress.{highest_address-bound}
 use Rattle.vme_listing.specs.Recorded.{address_to, cycle_row, rows_before}
 use Rattle.vme_listing.specs.declared.row.AnswerLine.{AnswerLine}
 use Rattle.vme_listing.specs.declared.row.Direction.{Direction}
@@ -180,17 +181,6 @@ is_needed-level : (v : Levels) → class_of v ≡ class.I → (n : ℕ) → n < 
 unfolding is_needed needs_of
 is_needed-level v e n h = rw e (is_within-address false 3 n h)
 
--- the highest address line is at most A31
-highest_address-le_31 : (code : ℕ) → highest_address code ≤ 31
-unfolding highest_address
-highest_address-le_31 code = by (is_extended code) (is_standard code) (is_short code)
-  where
-    by : (a b c : Bool) → (if a then 31 else if b then 23 else if c then 15 else 0) ≤ 31
-    by true b c = omega arith
-    by false true c = omega arith
-    by false false true = omega arith
-    by false false false = omega arith
-
 -- ---- the class by the modifier code
 
 -- class S has a code with an address, and of no block
@@ -272,7 +262,7 @@ module _ (t : Trace) (stretch : Stretch) (end : ℕ) (most : end ≤ stretch.end
     -- the address lines that are meaningful with the cycle's code are known, if it has an address
     known-address : (c : Class) → class_of (levels_at t i) ≡ c → (c ≡ class.I → ⊥) → (c ≡ class.F → ⊥) → (n : ℕ)
         → n < highest_address (modifier_of (levels_at t i)) → known t (address_line n) i ≡ true
-    known-address c of other free n low = let top = highest_address-le_31 (modifier_of (levels_at t i)) in
+    known-address c of other free n low = let top = highest_address-bound (modifier_of (levels_at t i)) in
         known-needed i before starts (address_line n) (omega (arith, low, top)) (is_needed-address (levels_at t i) c of
         other free n low)
 

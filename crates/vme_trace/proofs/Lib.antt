@@ -3,6 +3,7 @@ pub mod Counting
 pub mod CutBlocks
 pub mod EveryRule
 pub mod FollowedLaws
+pub mod HighestAddress
 pub mod IdleLines
 pub mod JudgedStretches
 pub mod ListLaws
