@@ -15,6 +15,7 @@ use Rattle.vme_monitor.specs.Run.{break_of_fault, mark_at}
 use Rattle.vme_monitor.specs.declared.mark.Fault.{Fault}
 use Rattle.vme_monitor.specs.declared.mark.Mark.{Mark}
 use Rattle.vme_monitor.specs.declared.mark.MarkKind.{MarkKind}
+use Rattle.vme_monitor.specs.Runs.{break_here, marks_here}
 use Rattle.vme_summary.specs.MarkedRows.{marks_before, marks_listed, opening_marks}
 use Rattle.vme_auditor.specs.FirstBreak.{first_break_from}
 use Rattle.vme_auditor.specs.JoinedMarks.{joined_marks, kinds_shown}
@@ -270,29 +271,11 @@ marks-found (s ∷ x) o n m ms =
 
 -- ---- a whole recording
 
--- a break that is 0 later is the same
-shifted_break-zero : (b : Option Break) → option_map (shifted_break 0) b ≡ b
-shifted_break-zero None = refl
-shifted_break-zero (Some b) = ap (λ (i : ℕ). Some (record { instant = i; time = b.time; rule = b.rule; line = b.line }))
-    (no_more b.instant)
-  where
-    no_more : (i : ℕ) → i + 0 ≡ i
-    no_more i = omega arith
-
--- marks that are 0 later are the same
-shifted_mark-zero : (ms : List Mark) → map (shifted_mark 0) ms ≡ ms
-shifted_mark-zero [] = refl
-shifted_mark-zero (m ∷ ms) = ap (λ (i : ℕ). mark_at i m.kind ∷ map (shifted_mark 0) ms) (no_more m.instant)
-    ∙ ap (λ (ms : List Mark). m ∷ ms) (shifted_mark-zero ms)
-  where
-    no_more : (i : ℕ) → i + 0 ≡ i
-    no_more i = omega arith
-
 -- the break that is reached after all steps is their first one
 pub reached-first : (o : Levels) (x : List Step) → (reached o x).found ≡ first_break_from (memories_at o) o x
 unfolding reached
 reached-first o x = first-found x o 0 (memories_at o) (opening_marks o)
-    ∙ shifted_break-zero (first_break_from (memories_at o) o x)
+    ∙ break_here (first_break_from (memories_at o) o x)
 
 -- the marks that are reached are those of the opening and those listed of the steps
 pub reached-marks : (o : Levels) (x : List Step) → (reached o x).marks
@@ -300,4 +283,4 @@ pub reached-marks : (o : Levels) (x : List Step) → (reached o x).marks
 unfolding reached
 reached-marks o x = marks-found x o 0 (memories_at o) (opening_marks o)
     ∙ ap (λ (ms : List Mark). opening_marks o ++ ms)
-    (shifted_mark-zero (marks_listed (first_break_from (memories_at o) o x) (joined_marks (memories_at o) o x)))
+    (marks_here (marks_listed (first_break_from (memories_at o) o x) (joined_marks (memories_at o) o x)))

@@ -1,6 +1,6 @@
 -- The least of the breaks of all monitors' runs is the first one that the monitors find step by step.
 use Rattle.std.proofs.Common.{◌≡◌, ℕ, suc, Bool, true, false, List, [], ◌∷◌, length, refl, ◌∙◌, ap}
-use Rattle.std.proofs.Common.{arith, cond, Option, None, Some}
+use Rattle.std.proofs.Common.{cond, Option, None, Some}
 use Rattle.std.specs.Option.{option_map}
 use Rattle.vme_trace.specs.Levels.{Levels}
 use Rattle.vme_trace.specs.Judged.{Stretch, judged_stretches}
@@ -10,9 +10,9 @@ use Rattle.vme_trace.specs.Verdict.{judge, least_of, verdict, verdict_by, verdic
 use Rattle.vme_trace.specs.declared.step.Step.{Step}
 use Rattle.vme_trace.specs.declared.verdict.Break.{Break}
 use Rattle.vme_trace.specs.declared.verdict.Verdict.TheVariants.{Broken, Unreadable}
-use Rattle.vme_monitor.specs.BothMonitors.{least, least_joined, sooner}
+use Rattle.vme_monitor.specs.BothMonitors.{least, least_joined, break_least}
 use Rattle.vme_monitor.specs.Outcome.{BreakWithin, earlier, shifted_break}
-use Rattle.vme_monitor.specs.RuleMonitors.{run_within}
+use Rattle.vme_monitor.specs.RuleMonitors.{run_within, break_earlier, break_there, break_shifted}
 use Rattle.vme_monitor.specs.Run.{break_of_fault}
 use Rattle.vme_monitor.specs.declared.mark.Fault.{Fault}
 use Rattle.vme_audit.specs.Parts.{named_break}
@@ -29,31 +29,6 @@ break_at_first time f = option_map (break_of_fault 1 time) f
 -- a break, if there is one, one instant later
 abbrev one_later : Option Break → Option Break
 one_later e = option_map (shifted_break 1) e
-
--- a break at instant 1 is within any number of steps but 0
-BreakWithin-fault : (n time : ℕ) (f : Option Fault) → BreakWithin (suc n) (break_at_first time f)
-BreakWithin-fault n time None = tt
-BreakWithin-fault n time (Some f) = (omega arith, omega arith)
-
--- a break within n steps is, one instant later, within n + 1
-BreakWithin-later : (n : ℕ) (e : Option Break) → BreakWithin n e → BreakWithin (suc n) (one_later e)
-BreakWithin-later n None w = tt
-BreakWithin-later n (Some b) w = (omega arith, omega arith)
-
--- the earlier of two breaks within n steps is within n
-BreakWithin-earlier : (n : ℕ) (a b : Option Break) → BreakWithin n a → BreakWithin n b → BreakWithin n (earlier a b)
-BreakWithin-earlier n None b p q = q
-BreakWithin-earlier n (Some a) b p q = p
-
--- the least of two breaks within n steps is within n
-BreakWithin-least : (n : ℕ) (a b : Option Break) → BreakWithin n a → BreakWithin n b → BreakWithin n (least a b)
-BreakWithin-least n None b p q = q
-BreakWithin-least n (Some a) None p q = p
-BreakWithin-least n (Some a) (Some b) p q = chosen (sooner b a)
-  where
-    chosen : (t : Bool) → BreakWithin n (cond t (Some b) (Some a))
-    chosen true = q
-    chosen false = p
 
 -- the least of two breaks at one instant is that of the fault that is named
 least-faults : (time : ℕ) (f g : Option Fault) → least (break_at_first time f) (break_at_first time g)
@@ -73,8 +48,8 @@ least-step : (k time : ℕ) (f g : Option Fault) (c d : Option Break) → BreakW
     → least (earlier (break_at_first time f) (one_later c)) (earlier (break_at_first time g) (one_later d))
     ≡ earlier (break_at_first time (first_fault f g)) (one_later (least c d))
 least-step k time f g c d p q =
-    least_joined 1 k (break_at_first time f) (break_at_first time g) c d (BreakWithin-fault 0 time f)
-    (BreakWithin-fault 0 time g) p q
+    least_joined 1 k (break_at_first time f) (break_at_first time g) c d (break_there 0 time f)
+    (break_there 0 time g) p q
     ∙ ap (λ e. earlier e (one_later (least c d))) (least-faults time f g)
 
 -- the least of what all five monitors find in steps `x`
@@ -98,13 +73,13 @@ module _ (k time : ℕ) where
       (one_later (least a (least b (least c (least d e)))))
   least-step_of_five f g h i j a b c d e p q r s t =
       let last = least-step k time i j d e s t in
-      let third = least-step k time h (first_fault i j) c (least d e) r (BreakWithin-least k d e s t) in
+      let third = least-step k time h (first_fault i j) c (least d e) r (break_least k d e s t) in
       let second = least-step k time g (first_fault h (first_fault i j)) b (least c (least d e)) q
-      (BreakWithin-least k c (least d e) r (BreakWithin-least k d e s t)) in
+      (break_least k c (least d e) r (break_least k d e s t)) in
       let first = least-step k time f (first_fault g (first_fault h (first_fault i j))) a
       (least b (least c (least d e))) p
-      (BreakWithin-least k b (least c (least d e)) q
-      (BreakWithin-least k c (least d e) r (BreakWithin-least k d e s t))) in
+      (break_least k b (least c (least d e)) q
+      (break_least k c (least d e) r (break_least k d e s t))) in
       rw (last, third, second, first) refl
 
 -- the least of the breaks of the five runs is the first break that the monitors find step by step
@@ -132,10 +107,10 @@ BreakWithin-first_break [] m o = tt
 BreakWithin-first_break (s ∷ x) m o =
     let after = changed o s.changes in
     let next = memories_next m o after s.changes in
-    BreakWithin-earlier (suc (length x)) (fault_at m o after s.changes 1 s.time)
+    break_earlier (suc (length x)) (fault_at m o after s.changes 1 s.time)
     (one_later (first_break_from next after x))
-    (BreakWithin-fault (length x) s.time (first_fault_of m o after s.changes))
-    (BreakWithin-later (length x) (first_break_from next after x) (BreakWithin-first_break x next after))
+    (break_there (length x) s.time (first_fault_of m o after s.changes))
+    (break_shifted (length x) (first_break_from next after x) (BreakWithin-first_break x next after))
 
 -- a verdict on a break names that break
 pub named_break-verdict_on : (found : Option Break) → named_break (verdict_on found) ≡ found

@@ -1,6 +1,6 @@
 -- A line has an edge at an instant exactly if a change of the step to it makes that edge; and which lines are the grant
 -- nets.
-use Rattle.std.proofs.Common.{◌≡◌, ℕ, zero, suc, ◌+◌, ◌-◌, ◌/◌, ◌<◌, ◌≤◌, Bool, true, false, ◌&&◌, ◌||◌, List}
+use Rattle.std.proofs.Common.{◌≡◌, ℕ, ◌+◌, ◌-◌, ◌/◌, ◌<◌, ◌≤◌, Bool, true, false, ◌&&◌, ◌||◌, List}
 use Rattle.std.proofs.Common.{[], ◌∷◌, refl, sym, ◌∙◌, ap, arith}
 use Rattle.std.specs.Prelude.{◌==◌}
 use Rattle.std.specs.List.{list_any}
@@ -18,6 +18,7 @@ use Rattle.vme_trace.specs.declared.level.Level.{Level}
 use Rattle.vme_trace.specs.declared.step.Change.{Change}
 use Rattle.vme_trace.proofs.Changing.{level-kept, slots-kept, exists_below, not_high_and_low, not_low_and_high}
 use Rattle.vme_trace.proofs.Ranges.{any-holds, any-least, clash, least-found}
+use Rattle.vme_chains.proofs.GrantArbiter.{is_arbiter_grant-of_level, grant-below_line_count}
 use Rattle.vme_auditor.specs.Events.{net_falls, net_rises}
 use Rattle.vme_auditor.proofs.Truth.{or_swapped}
 
@@ -143,14 +144,6 @@ module _ (v : Levels) (few : v.slots ≤ 21) (cs : List Change) (fit : are_chang
           (ap (λ (x : Level). is_low (level_at v l) && is_high x) (level-kept v cs l e)
           ∙ not_low_and_high (level_at v l))
 
--- the first net of the grant chain of each of the levels 0 to 3 is the arbiter's
-is_arbiter_grant-of_level : (n : ℕ) → n < 4 → is_arbiter_grant (grant n 0) ≡ true
-is_arbiter_grant-of_level zero h = refl
-is_arbiter_grant-of_level (suc zero) h = refl
-is_arbiter_grant-of_level (suc (suc zero)) h = refl
-is_arbiter_grant-of_level (suc (suc (suc zero))) h = refl
-is_arbiter_grant-of_level (suc (suc (suc (suc n)))) h = absurd (omega arith)
-
 -- a grant net of the arbiter is the first net of the chain of one of the levels 0 to 3
 grant-of_arbiter_net : (l : ℕ) → is_arbiter_grant l ≡ true → (grant ((l - 50) / 22) 0 ≡ l) × ((l - 50) / 22 < 4)
 grant-of_arbiter_net l h = (net l h, few l h)
@@ -160,10 +153,6 @@ grant-of_arbiter_net l h = (net l h, few l h)
 
     few : (l : ℕ) → is_arbiter_grant l ≡ true → (l - 50) / 22 < 4
     few l h = grind (arith, nat_tests)
-
--- the first net of the grant chain of a level is a line
-grant-below_line_count : (n : ℕ) → n < 4 → grant n 0 < line_count
-grant-below_line_count n h = omega arith
 
 -- `p` holds of some grant net of the arbiter exactly if it holds of the first net of some level's chain
 pub any-arbiter_grant : (p : ℕ → Bool) → any (λ l. is_arbiter_grant l && p l) 0 line_count

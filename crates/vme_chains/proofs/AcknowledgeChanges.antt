@@ -1,7 +1,7 @@
 -- What the changes of a step say of the lines on which I1 to I3 depend.
 use Rattle.std.proofs.Common.{◌≡◌, ℕ, Bool, true, false, ◌&&◌, not, List, [], ◌∷◌, refl}
 use Rattle.std.proofs.Common.{cond}
-use Rattle.std.specs.Prelude.{Option, None, Some}
+use Rattle.std.specs.Prelude.{None, Some}
 use Rattle.std.specs.Option.{is_some}
 use Rattle.std.proofs.lemmas.Bool.{and_left}
 use Rattle.std.proofs.Math.Bool.{and-false, and-true}
@@ -37,11 +37,6 @@ pub passes_unasked-unchanged : (v : Levels) (cs : List Change) (l : ℕ) → is_
     → passes_unasked v (changed v cs) l
     ≡ false
 passes_unasked-unchanged v cs l h = and_left (passes_on v (changed v cs) l) _ (passes_on-unchanged v cs l h)
-
--- an option without a value is `None`
-pub is_some-none : {A : Type 0} (o : Option A) → is_some o ≡ false → o ≡ None
-is_some-none None h = refl
-is_some-none (Some x) h = absurd (cc)
 
 -- if no slot passes an acknowledge on, none does while its input isn't low
 pub passes_unasked-none : (v w : Levels) (cs : List Change) → is_some (first_changed (passes_on v w) cs) ≡ false

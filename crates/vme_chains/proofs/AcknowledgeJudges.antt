@@ -24,6 +24,7 @@ use Rattle.vme_monitor.specs.declared.mark.Next.{Next}
 use Rattle.vme_monitor.proofs.InsideRules.{FindsLeast-inside, ShowsAll-inside}
 use Rattle.vme_monitor.proofs.StretchFacts.{IsStretch}
 use Rattle.vme_monitor.proofs.Alongside.{levels_at-step, are_changes-step, memory_from-before}
+use Rattle.vme_monitor.proofs.Transitions.{is_some-none}
 use Rattle.vme_chains.specs.AcknowledgeRules.{acknowledge_begin, acknowledge_next, acknowledge_rules, acknowledge_shown}
 use Rattle.vme_chains.specs.AcknowledgeRules.{acknowledge_observation, fault_among, fault_on, changes_memory}
 use Rattle.vme_chains.specs.AcknowledgeRules.{memory_after, passes_on, passes_unasked, is_strobed}
@@ -31,7 +32,7 @@ use Rattle.vme_chains.specs.AcknowledgeRules.{is_addressed}
 use Rattle.vme_chains.specs.declared.acknowledge.AcknowledgeMemory.{AcknowledgeMemory}
 use Rattle.vme_chains.specs.declared.acknowledge.PassingSlots.{PassingSlots}
 use Rattle.vme_chains.proofs.AcknowledgeBreaks.{least-I1, least-I2, least-I3}
-use Rattle.vme_chains.proofs.AcknowledgeChanges.{is_some-none, passes_on-unchanged}
+use Rattle.vme_chains.proofs.AcknowledgeChanges.{passes_on-unchanged}
 use Rattle.vme_chains.proofs.AcknowledgeChanges.{passes_unasked-none, passes_unasked-unchanged}
 use Rattle.vme_chains.proofs.AcknowledgeMeaning.{Holds, Holds-start, Holds-next, memory_after-unchanged}
 

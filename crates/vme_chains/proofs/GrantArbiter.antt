@@ -34,7 +34,7 @@ grant_level-below_4 : (l : ℕ) → is_arbiter_grant l ≡ true → grant_level 
 grant_level-below_4 l h = grind (arith, nat_tests)
 
 -- the arbiter drives the first net of the chain of each level
-is_arbiter_grant-of_level : (n : ℕ) → n < 4 → is_arbiter_grant (grant n 0) ≡ true
+pub is_arbiter_grant-of_level : (n : ℕ) → n < 4 → is_arbiter_grant (grant n 0) ≡ true
 is_arbiter_grant-of_level n h = grind (arith, nat_tests)
 
 -- the level of the first net of a level's chain is that level
@@ -46,7 +46,7 @@ lt-lower_net : (m n l : ℕ) → l ≡ grant m 0 → l < grant n 0 → m < n
 lt-lower_net m n l e h = omega arith
 
 -- the first net of a level's chain is a line
-grant-below_line_count : (n : ℕ) → n < 4 → grant n 0 < line_count
+pub grant-below_line_count : (n : ℕ) → n < 4 → grant n 0 < line_count
 grant-below_line_count n h = omega arith
 
 -- if p fails on all lines but the nets that the arbiter drives, the least line with p is the net of the least level

@@ -7,6 +7,7 @@ use Rattle.vme_trace.specs.declared.rule.Rule.{Rule}
 use Rattle.vme_trace.specs.declared.rule.Rule.TheVariants.{C1, C2, I4, I5}
 use Rattle.vme_trace.specs.declared.verdict.Break.{Break}
 use Rattle.vme_monitor.specs.declared.mark.Fault.{Fault}
+use Rattle.vme_monitor.proofs.StretchLists.{option_or-assoc}
 use Rattle.vme_dtb.specs.CycleState.{is_interrupt_acknowledge, is_answered_interrupt_acknowledge}
 use Rattle.vme_dtb.specs.CycleState.{is_read_modify_write_broken, is_direction_changed}
 use Rattle.vme_dtb.specs.Machine.{fault_if, cycle_fault, cycle_faults, first_of_faults, or_first}
@@ -51,11 +52,6 @@ option_map-option_or : (at : Fault → Break) (a b : Option Fault) → option_ma
     (option_map at b)
 option_map-option_or at None b = refl
 option_map-option_or at (Some x) b = refl
-
--- the first of three breaks, however they are grouped
-option_or-assoc : (a b c : Option Break) → option_or (option_or a b) c ≡ option_or a (option_or b c)
-option_or-assoc None b c = refl
-option_or-assoc (Some x) b c = refl
 
 module _ (at : Fault → Break) (of : Rule → Option Break) where
   -- the first break of some rules, or else `later`

@@ -1,7 +1,7 @@
 -- A step in which nothing is observed leaves the memory (the state of the automaton) as it is and breaks no rule.
 use Rattle.std.proofs.Common.{◌≡◌, ℕ, suc, ◌<◌, ◌≤◌, Bool, true, false, ◌||◌, ◌&&◌, not, List, refl, sym, ◌∙◌, arith}
 use Rattle.std.proofs.Common.{cond, lit<}
-use Rattle.std.specs.Prelude.{Option, None, Some}
+use Rattle.std.specs.Prelude.{None, Some}
 use Rattle.std.specs.Option.{is_some, option_or}
 use Rattle.std.proofs.lemmas.Bool.{or_parts}
 use Rattle.vme_trace.specs.Edges.{answer_between, rises_between, strobe_low_in, strobe_rises_between, strobes_high_in}
@@ -18,6 +18,7 @@ use Rattle.vme_monitor.specs.Run.{quiet}
 use Rattle.vme_monitor.specs.declared.tracking.TransferPhase.{TransferPhase}
 use Rattle.vme_monitor.specs.declared.tracking.TransferPhase.TheVariants.{Closed, Reading, Writing, Answered}
 use Rattle.vme_monitor.proofs.StretchFacts.{IsStretch}
+use Rattle.vme_monitor.proofs.Transitions.{is_some-none}
 use Rattle.vme_dtb.specs.StabilityRules.{changed_need_line, may_change_memory, direction_turned, fault_on}
 use Rattle.vme_dtb.specs.StabilityRules.{unknown_fault, held_fault, is_observed, keeps_address, keeps_direction}
 use Rattle.vme_dtb.specs.StabilityRules.{observation_of, changed_data_line, stability_next, stepped, undriven_line}
@@ -25,11 +26,6 @@ use Rattle.vme_dtb.specs.declared.holding.Holding.{Holding}
 use Rattle.vme_dtb.specs.HoldingNumbers.{has_risen, was_answered}
 use Rattle.vme_dtb.proofs.StabilityMeaning.{Holds, strobes_high_in-before, strobes_high_in-is_closed}
 use Rattle.vme_dtb.proofs.Progressing.{is_answered_state, is_closed, passed-parts}
-
--- an option that has no value is `None`
-is_some-none : {A : Type 0} (o : Option A) → is_some o ≡ false → o ≡ None
-is_some-none None h = refl
-is_some-none (Some x) h = absurd (cc)
 
 -- whether the cycle has an answer stays, if AS* doesn't rise and no answer comes
 cycle_answered-same : (x y : Level) (a u : Bool) → is_known y ≡ true → (is_low x ≡ false → a ≡ false)

@@ -1,27 +1,23 @@
 -- A step that no row of a table notices changes no row; and only a step of threshold 0, which each row notices, can
 -- make a row more sensitive.
 use Rattle.std.proofs.Common.{◌≡◌, ℕ, ◌<◌, ◌≤◌, List, [], ◌∷◌, length, map, refl, sym, ◌∙◌, ap, append-nil, arith}
-use Rattle.std.proofs.Common.{Option, Some, None}
+use Rattle.std.proofs.Common.{Option, Some}
 use Rattle.std.proofs.lemmas.List.{get_or-map, length-map}
 use Rattle.std.proofs.lemmas.List.Elements.{All-tail}
 use Rattle.std.specs.Prelude.{All, get_or}
 use Rattle.vme_trace.specs.Levels.{Levels}
 use Rattle.vme_trace.specs.declared.step.Change.{Change}
-use Rattle.vme_monitor.specs.Outcome.{Outcome, earlier}
+use Rattle.vme_monitor.specs.Outcome.{Outcome}
 use Rattle.vme_monitor.specs.Run.{advanced, extended, machine_step, outcome_at, quiet}
 use Rattle.vme_monitor.specs.Walk.{outcome_of}
 use Rattle.vme_monitor.specs.declared.link.TableRow.{TableRow}
 use Rattle.vme_monitor.specs.declared.mark.Next.{Next}
+use Rattle.vme_monitor.specs.Runs.{earlier-none}
 
 -- a bound m on the sizes gives each greater bound n
 pub All-greater_bound : {A : Type 0} (size : A → ℕ) (m n : ℕ) (xs : List A) → m ≤ n → All (λ x. size x ≤ m) xs
     → All (λ x. size x ≤ n) xs
 All-greater_bound size m n xs h a k d b = let small : size (get_or xs k d) ≤ m = a k d b in omega arith
-
--- the earlier of a and none is a
-earlier-none : {A : Type 0} (a : Option A) → earlier a None ≡ a
-earlier-none None = refl
-earlier-none (Some x) = refl
 
 -- a step that leaves the memory as it is, breaks nothing and shows nothing, leaves the outcome as it is
 pub extended-quiet : {P : Type 0} (n time : ℕ) (a : Outcome P) (next : Next P) → next ≡ quiet a.leaving

@@ -67,14 +67,9 @@ marks_to shown n [] = []
 marks_to shown n (stretch ∷ stretches) = marks_until stretch (shown stretch) n ++ marks_to shown n stretches
 
 -- the first of three optional breaks, however they are grouped
-option_or-assoc : (a b c : Option Break) → option_or (option_or a b) c ≡ option_or a (option_or b c)
+pub option_or-assoc : (a b c : Option Break) → option_or (option_or a b) c ≡ option_or a (option_or b c)
 option_or-assoc None b c = refl
 option_or-assoc (Some x) b c = refl
-
--- a break is the earlier one of itself and none
-pub earlier-none : (a : Option Break) → earlier a None ≡ a
-earlier-none None = refl
-earlier-none (Some b) = refl
 
 -- the first of a, b and c is the first of a, b and d, if c and d are equal where there is no b
 pub earlier-option_or : (a b c d : Option Break) → (b ≡ None → c ≡ d) → earlier (option_or a b) c

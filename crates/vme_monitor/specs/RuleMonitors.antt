@@ -1,6 +1,6 @@
 -- The breaks and the marks of a run are at the instants of its steps.
 use Rattle.std.proofs.Common.{◌≡◌, ℕ, suc, ◌+◌, ◌^◌, ◌<◌, ◌≤◌, List, [], ◌∷◌, ◌++◌, length, map, refl, sym, ◌∙◌, arith}
-use Rattle.std.proofs.Common.{add-zero, length-append, Option, Some, None}
+use Rattle.std.proofs.Common.{length-append, Option, Some, None}
 use Rattle.std.specs.Option.{option_map}
 use Rattle.vme_trace.specs.Trace.{levels_after, changed}
 use Rattle.vme_trace.specs.Levels.{Levels}
@@ -15,20 +15,25 @@ use Rattle.vme_monitor.specs.Walk.{later, later_break, later_mark, later_outcome
 use Rattle.vme_monitor.specs.declared.mark.MarkKind.{MarkKind}
 use Rattle.vme_monitor.specs.declared.mark.Mark.{Mark}
 use Rattle.vme_monitor.specs.declared.mark.Next.{Next}
+use Rattle.vme_monitor.specs.Runs.{break_here, marks_here}
 
-break_earlier : (n : ℕ) (a b : Option Break) → BreakWithin n a → BreakWithin n b → BreakWithin n (earlier a b)
+-- the earlier of two breaks within n steps is within n
+pub break_earlier : (n : ℕ) (a b : Option Break) → BreakWithin n a → BreakWithin n b → BreakWithin n (earlier a b)
 break_earlier n None b p q = q
 break_earlier n (Some x) b p q = p
 
-break_there : (n time : ℕ) (f : Option Fault) → BreakWithin (suc n) (option_map (break_of_fault 1 time) f)
+-- a break at instant 1 is within any number of steps but 0
+pub break_there : (n time : ℕ) (f : Option Fault) → BreakWithin (suc n) (option_map (break_of_fault 1 time) f)
 break_there n time None = tt
 break_there n time (Some f) = (omega arith, omega arith)
 
-break_shifted : (n : ℕ) (e : Option Break) → BreakWithin n e → BreakWithin (suc n) (option_map (shifted_break 1) e)
+-- a break within n steps is, one instant later, within n + 1
+pub break_shifted : (n : ℕ) (e : Option Break) → BreakWithin n e → BreakWithin (suc n) (option_map (shifted_break 1) e)
 break_shifted n None p = tt
 break_shifted n (Some b) p = (omega arith, omega arith)
 
-marks_append : (n : ℕ) (a b : List Mark) → MarksWithin n a → MarksWithin n b → MarksWithin n (a ++ b)
+-- the marks of two lists are within n steps, if those of each are
+pub marks_append : (n : ℕ) (a b : List Mark) → MarksWithin n a → MarksWithin n b → MarksWithin n (a ++ b)
 marks_append n [] b p q = q
 marks_append n (m ∷ a) b p q = (p.0, p.1, marks_append n a b p.2 q)
 
@@ -94,14 +99,6 @@ marks_same : (m n : ℕ) (ms : List Mark) → MarksWithin m ms → m + n < 2 ^ 3
     → map (later_mark n) ms ≡ map (shifted_mark n) ms
 marks_same m n [] p h = refl
 marks_same m n (k ∷ ms) p h = rw (later_sum m n k.instant p.1 h, marks_same m n ms p.2 h) refl
-
-break_here : (e : Option Break) → option_map (shifted_break 0) e ≡ e
-break_here None = refl
-break_here (Some b) = rw add-zero refl
-
-marks_here : (ms : List Mark) → map (shifted_mark 0) ms ≡ ms
-marks_here [] = refl
-marks_here (m ∷ ms) = rw (add-zero, marks_here ms) refl
 
 -- where the instants stay below 2^32, a followed by b later by m is their composed outcome
 pub followed_same : {P : Type 0} (m n : ℕ) (a b : Outcome P) → IsWithin n b → m + n < 2 ^ 32

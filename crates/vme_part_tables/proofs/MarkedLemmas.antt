@@ -12,6 +12,7 @@ use Rattle.std.proofs.lemmas.Option.{get_or_from_slice_get, slice_get_cases}
 use Rattle.vme_trace.specs.declared.verdict.Break.{Break}
 use Rattle.vme_monitor.specs.Outcome.{Outcome, earlier}
 use Rattle.vme_monitor.specs.declared.mark.Mark.{Mark}
+use Rattle.vme_monitor.specs.Runs.{earlier-none}
 use Rattle.vme_part_format.specs.Tables.{NodeValue, TableValue, node_value}
 use Rattle.vme_part_format.specs.declared.table.TableEntry.{TableEntry}
 use Rattle.vme_part_format.specs.declared.table.TableNode.{TableNode}
@@ -136,11 +137,6 @@ AddsBefore-new_node m made n ev on w ms first_break next marks =
     subst (AddsBefore (option_map break_of ev) ms (made_outcome m made on w)) (sym same)
     (AddsBefore-marks ev n.marks ms (made_outcome m made on w) marks)
 
--- a break is earlier than none
-earlier_none : (e : Option Break) → earlier e None ≡ e
-earlier_none None = refl
-earlier_none (Some b) = refl
-
 -- an outcome r with the break `ev` and the marks ms that ends in the memory p agrees with this run
 pub AgreesWithRun-of_outcome : {P : Type 0} (place : P → ℕ) (m : ℕ) (made : List NodeValue) (p : P) (ev : Option Break)
     (ms : List Mark)
@@ -151,7 +147,7 @@ AgreesWithRun-of_outcome place m made p ev ms r h s =
     ap (λ k. with_break_before None (run_from m (reverse made) k)) (reversed_way-memory m (length made) (place p) h)
     ∙ ap (with_break_before None) (run_from_memory m (reverse made) (place p) h) in
     let s = subst (λ w. AddsBefore ev ms w r) ends s in
-    record { leaving = s.leaving; first_break = s.first_break ∙ earlier_none ev; marks = s.marks ∙ append-nil ms }
+    record { leaving = s.leaving; first_break = s.first_break ∙ earlier-none ev; marks = s.marks ∙ append-nil ms }
 
 -- one more item doesn't change the items before it
 pub onward_at-before_new : (os : List Onward) (o : Onward) (k : ℕ) → k < length os
