@@ -4,10 +4,10 @@ use Rattle.std.specs.Prelude.{◌&&◌, count_by, if◌then◌else◌}
 use Rattle.std.specs.List.{fold}
 use Rattle.std.specs.Result.{OnOk}
 use Rattle.std.specs.declared.result.Result.{Result}
-use Rattle.std.specs.declared.result.Result.TheVariants.{Ok, Err}
 use Rattle.std.specs.declared.alloc.AllocError.{AllocError}
 use Rattle.std.proofs.lemmas.List.{map-append}
 use Rattle.std.proofs.lemmas.List.Sums.{fold-append}
+use Rattle.std.proofs.lemmas.Result.{on_ok_weaker}
 use Rattle.vme_monitor.specs.Run.{mark_at}
 use Rattle.vme_monitor.specs.declared.mark.Mark.{Mark}
 use Rattle.vme_monitor.specs.declared.mark.MarkKind.{MarkKind}
@@ -48,11 +48,6 @@ count_in-marked m ms k is counted =
     ap (λ (m : Marked). count_in (counts_in m) k) (is ∙ fold-marked_next ms nothing_marked)
     ∙ count_in-counts_of k ms counted
 
--- what holds on success may be replaced by what follows from it
-pub OnOk-implied : {T E : Type 0} {A B : Type 0} (r : Result T E) → (A → B) → OnOk r A → OnOk r B
-OnOk-implied (Ok t) f h = f h
-OnOk-implied (Err e) f h = tt
-
 -- ---- the kinds that are shown, one after the other
 
 module _ (i : ℕ) where
@@ -89,7 +84,7 @@ module _ (i : ℕ) where
       let s7 = taken_kinds-append m0 m6 m7 (k1 ++ k2 ++ k3 ++ k4 ++ k5 ++ k6) k7 s6 e7 in
       let s8 = taken_kinds-append m0 m7 m8 (k1 ++ k2 ++ k3 ++ k4 ++ k5 ++ k6 ++ k7) k8 s7 e8 in
       let s9 = taken_kinds-append m0 m8 m9 (k1 ++ k2 ++ k3 ++ k4 ++ k5 ++ k6 ++ k7 ++ k8) k9 s8 e9 in
-      OnOk-implied r (λ e. taken_kinds-append m0 m9 m10 (k1 ++ k2 ++ k3 ++ k4 ++ k5 ++ k6 ++ k7 ++ k8 ++ k9) k10 s9 e)
+      on_ok_weaker r (λ e. taken_kinds-append m0 m9 m10 (k1 ++ k2 ++ k3 ++ k4 ++ k5 ++ k6 ++ k7 ++ k8 ++ k9) k10 s9 e)
       last
 
 -- ---- the opening

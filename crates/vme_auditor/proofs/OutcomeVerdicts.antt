@@ -3,12 +3,12 @@ use Rattle.std.proofs.Common.{◌≡◌, ℕ, suc, Bool, true, false, not, List,
 use Rattle.std.proofs.Common.{cond, Option, None, Some}
 use Rattle.std.specs.Prelude.{nat_lt}
 use Rattle.std.specs.Option.{option_map, option_map_or}
+use Rattle.std.proofs.lemmas.Option.{same_Some}
 use Rattle.vme_trace.specs.Rules.{is_unreadable}
 use Rattle.vme_trace.specs.Trace.{Trace}
 use Rattle.vme_trace.specs.Verdict.{verdict}
 use Rattle.vme_trace.specs.declared.verdict.Break.{Break}
 use Rattle.vme_trace.specs.declared.verdict.Verdict.TheVariants as verdict_is
-use Rattle.vme_monitor.proofs.LastSeen.{same_value}
 use Rattle.vme_audit.specs.Allowances.{faults, is_allowed, unreadables, wrongs}
 use Rattle.vme_audit.specs.Counted.{counts}
 use Rattle.vme_audit.specs.Covered.{answered, any_of, gap, hang, hang_from, is_judged_part, never_idle, outcome}
@@ -132,7 +132,7 @@ module _ (p : Part) where
       (cond few (Some (FewAnswers answers wanted)) (option_map (hang_from p) h))
       ≡ Some NeverIdle → (judged ≡ false) × (bs ≡ [])
   judged-never_idle false few bs answers wanted h e =
-      (refl, never_idle_has_no_breaks bs (same_value (never_idle bs) NeverIdle e))
+      (refl, never_idle_has_no_breaks bs (same_Some (never_idle bs) NeverIdle e))
   judged-never_idle true true bs answers wanted h e = absurd (cc)
   judged-never_idle true false bs answers wanted None e = absurd (cc)
   judged-never_idle true false bs answers wanted (Some start) e = absurd (cc)

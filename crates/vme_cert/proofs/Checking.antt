@@ -7,7 +7,7 @@ use Rattle.std.specs.Prelude.{Option, None, Some, flat_map, nat_lt, ◌==◌, op
 use Rattle.std.specs.Option.{option_or}
 use Rattle.std.proofs.Math.Nat.{min-eq_left, min-eq_right}
 use Rattle.std.proofs.lemmas.List.{append-nil, length-take-le, take_all}
-use Rattle.std.proofs.lemmas.Option.{slice_get_read, slice_get_within}
+use Rattle.std.proofs.lemmas.Option.{slice_get_read, slice_get_within, same_Some}
 use Rattle.std.proofs.Math.Seq.{get_or-append_seam}
 use Rattle.std.proofs.lemmas.Bool.{lt-ltb, le-ltb, and_parts, and_right, not-false, or_from, or_right}
 use Rattle.vme_trace.proofs.JudgedStretches.{AreInOrder, starts_before_end, ends_within, AreInOrder-judged_stretches}
@@ -46,7 +46,7 @@ use Rattle.vme_cert.specs.declared.checker.CheckPhase.{CheckPhase}
 use Rattle.vme_cert.specs.declared.checker.CheckPhase.TheVariants.{Ended, InStretch, Waiting}
 use Rattle.vme_cert.specs.declared.open_rows.OpenRows.{OpenRows}
 use Rattle.vme_cert.specs.declared.state.State.{State}
-use Rattle.vme_cert.proofs.Ranges.{eq-fails_below, by_option, Some-injective, eq-fails_above}
+use Rattle.vme_cert.proofs.Ranges.{eq-fails_below, by_option, eq-fails_above}
 use Rattle.vme_cert.proofs.Ranges.{eq-or_below}
 use Rattle.vme_cert.proofs.Following.{IsDue-at_last, IsDue-transfer_at_last}
 
@@ -560,8 +560,8 @@ named-some None rule line e = absurd (cc)
 named-some (Some b) rule line e = (
   b,
   refl,
-  ap (λ (p : Rule × ℕ). p.0) (sym (Some-injective _ _ e)),
-  ap (λ (p : Rule × ℕ). p.1) (sym (Some-injective _ _ e)),
+  ap (λ (p : Rule × ℕ). p.0) (sym (same_Some _ _ e)),
+  ap (λ (p : Rule × ℕ). p.1) (sym (same_Some _ _ e)),
 )
 
 -- if `named` gives nothing, there is no break

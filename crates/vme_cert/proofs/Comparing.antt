@@ -3,7 +3,7 @@ use Rattle.std.proofs.Common.{◌≡◌, ℕ, zero, suc, ◌+◌, ◌-◌, ◌<�
 use Rattle.std.proofs.Common.{length, take, refl, sym, ◌∙◌, ap, subst, arith, inl, inr, ◌⊎◌, length-append}
 use Rattle.std.specs.Prelude.{◌==◌, Option, None, Some, slice_get, MatchOption}
 use Rattle.std.proofs.lemmas.Bool.Decides.{nat_tests}
-use Rattle.std.proofs.lemmas.Option.{slice_get_past, slice_get_within}
+use Rattle.std.proofs.lemmas.Option.{slice_get_past, slice_get_within, same_Some}
 use Rattle.std.proofs.lemmas.List.{append-nil}
 use Rattle.std.proofs.lemmas.Bool.{eqb-true, cases_lt}
 use Rattle.vme_trace.proofs.ListLaws.{slice_get-here, slice_get-append}
@@ -15,7 +15,7 @@ use Rattle.vme_cert.specs.declared.comparison.OpenRow.{OpenRow}
 use Rattle.vme_cert.specs.declared.compare.Answer.TheVariants.{Yes, No}
 use Rattle.vme_cert.specs.Agreement.{DecidesListing, DiffersAt}
 use Rattle.vme_cert.specs.declared.compare.Answer.{Answer}
-use Rattle.vme_cert.proofs.Ranges.{Some-injective, by_either_value}
+use Rattle.vme_cert.proofs.Ranges.{by_either_value}
 
 module _ {A : Type 0} where
   -- an option isn't both none and a value
@@ -30,7 +30,7 @@ module _ {A : Type 0} where
   take-same_items (suc n) [] (y ∷ ys) h = absurd (none-not_some y (h 0 (omega arith)))
   take-same_items (suc n) (x ∷ xs) [] h = absurd (none-not_some x (sym (h 0 (omega arith))))
   take-same_items (suc n) (x ∷ xs) (y ∷ ys) h = rw (
-    Some-injective x y (h 0 (omega arith)),
+    same_Some x y (h 0 (omega arith)),
     take-same_items n xs ys
         (λ i b. h (suc i) (omega arith)),
   ) refl
@@ -40,7 +40,7 @@ module _ {A : Type 0} where
   list-same_items [] [] h = refl
   list-same_items [] (y ∷ ys) h = absurd (none-not_some y (h 0))
   list-same_items (x ∷ xs) [] h = absurd (none-not_some x (sym (h 0)))
-  list-same_items (x ∷ xs) (y ∷ ys) h = rw (Some-injective x y (h 0), list-same_items xs ys (λ i. h (suc i))) refl
+  list-same_items (x ∷ xs) (y ∷ ys) h = rw (same_Some x y (h 0), list-same_items xs ys (λ i. h (suc i))) refl
 
   -- where a list has no item n, it has at most n
   length-at_most_missing : (xs : List A) (n : ℕ) → slice_get xs n ≡ None → length xs ≤ n

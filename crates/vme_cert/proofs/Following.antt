@@ -6,6 +6,7 @@ use Rattle.std.specs.Prelude.{◌==◌, Option, None, Some, slice_get, nat_le, i
 use Rattle.std.proofs.lemmas.Bool.Decides.{nat_tests}
 use Rattle.std.proofs.lemmas.Bool.{and_parts, and_left, and_right, not-true, cases_lt}
 use Rattle.std.proofs.Math.Bool.{and-not_self}
+use Rattle.std.proofs.lemmas.Option.{same_Some}
 use Rattle.vme_trace.proofs.Ranges.{clash, least-is, least-none, any-fails, any-holds, fails-any, least-found, any-past}
 use Rattle.vme_trace.proofs.Ranges.{least-none-any}
 use Rattle.vme_trace.specs.declared.class.Class.TheVariants as class
@@ -41,7 +42,7 @@ use Rattle.vme_cert.proofs.Placing.{expected_to-cycle, count_before-next, rows_i
 use Rattle.vme_cert.proofs.Placing.{rows_in-length}
 use Rattle.vme_cert.proofs.Placing.{expected_to-tenure}
 use Rattle.vme_cert.proofs.Placing.{expected_to-transfer}
-use Rattle.vme_cert.proofs.Ranges.{Some-injective, any-more, greatest-found, is_judged-after_start}
+use Rattle.vme_cert.proofs.Ranges.{any-more, greatest-found, is_judged-after_start}
 use Rattle.vme_cert.proofs.Ranges.{greatest-here, greatest-not, by_either_value}
 use Rattle.vme_cert.proofs.Ranges.{by_option}
 use Rattle.vme_cert.proofs.Instant.{known-AS, known-control_line}
@@ -412,7 +413,7 @@ module _ (t : Trace) (stretch : Stretch) where
               ∙ h.expected end from within;
           known = λ end edge. rw answer (known end edge
               ∙ ap (λ i. with_edge (row_in v (transfer_row t stretch end i (Some j))) edge)
-              (Some-injective c.start h.start (sym opened.last ∙ h.last)));
+              (same_Some c.start h.start (sym opened.last ∙ h.last)));
         }
 
     -- where both strobes are high the close of the transfer is known

@@ -5,6 +5,7 @@ use Rattle.std.specs.Prelude.{◌==◌, nat_le, nat_lt, Option, None, Some}
 use Rattle.std.proofs.lemmas.Bool.Decides.{nat_tests}
 use Rattle.std.proofs.lemmas.Bool.{leb-true, le-leb, ltb-true, lt-ltb, le-ltb, and_parts, and_right}
 use Rattle.std.proofs.Math.Bool.{and-false}
+use Rattle.std.proofs.lemmas.Option.{same_Some}
 use Rattle.vme_trace.proofs.Ranges.{any-fails, fails-any, clash, searches, any-holds, any-step}
 use Rattle.vme_trace.proofs.Ranges.{not_or, any-past, cond-cases}
 use Rattle.vme_cert.specs.Vocabulary.{Stretch, any, greatest, is_judged, none}
@@ -64,10 +65,6 @@ get_or-four_levels q a b c d e f g h (suc (suc (suc (suc n)))) below = absurd (o
 pub none-shorter : (p : ℕ → Bool) (f m n : ℕ) → m ≤ n → any p f n ≡ false → any p f m ≡ false
 none-shorter p f m n h none = fails-any p f m (λ i a b. any-fails p f n i none a (omega arith))
 
--- options that are equal have equal values
-pub Some-injective : {A : Type 0} (x y : A) → Some x ≡ Some y → x ≡ y
-Some-injective x y h = cc
-
 -- if no number of a range is the greatest that meets `p`, none meets it
 pub greatest-none-any : (p : ℕ → Bool) (f n : ℕ) → greatest p f n ≡ None → any p f n ≡ false
 unfolding greatest any
@@ -96,7 +93,7 @@ greatest-found p f zero i e = absurd (cc)
 greatest-found p f (suc n) i e =
     elim (cond-cases (nat_le f n && p n) (Some n) (greatest p f n) (Some i) e) [
       | inl here ↦
-          let same : n ≡ i = Some-injective n i here.1 in
+          let same : n ≡ i = same_Some n i here.1 in
           let both = and_parts (nat_le f n) (p n) here.0 in
           let from : f ≤ n = leb-true f n both.0 in
           record {

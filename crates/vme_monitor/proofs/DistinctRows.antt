@@ -10,6 +10,7 @@ use Rattle.std.proofs.lemmas.List.{length-map}
 use Rattle.std.proofs.lemmas.List.FromFn.{get_or-range_with_len, length-range_with_len}
 use Rattle.std.proofs.lemmas.List.Folds.{list_any_at}
 use Rattle.std.proofs.lemmas.List.Sums.{sum_by-cons}
+use Rattle.std.proofs.lemmas.Option.{same_Some}
 use Rattle.vme_trace.specs.Levels.{Levels}
 use Rattle.vme_trace.specs.Trace.{changed, levels_after}
 use Rattle.vme_trace.specs.declared.step.Change.{Change}
@@ -21,7 +22,7 @@ use Rattle.vme_monitor.specs.Run.{advanced, kinds_of, mark_at, machine_step, run
 use Rattle.vme_monitor.specs.Runs.{run_more, unobserved}
 use Rattle.vme_monitor.specs.Walk.{LinkValue}
 use Rattle.vme_monitor.specs.declared.mark.Next.{Next}
-use Rattle.vme_monitor.proofs.LastSeen.{no_value, same_value}
+use Rattle.vme_monitor.proofs.LastSeen.{no_value}
 
 -- h, but 0 at n
 abbrev pub without : (ℕ → ℕ) → ℕ → ℕ → ℕ
@@ -246,7 +247,7 @@ module _ {P : Type 0} (next : P → Levels → Levels → List Change → Next P
         let l = left 0 r.leaving refl in
         let here : (run_of next l.0 o (x ++ s ∷ [])).leaving ≡ p =
         ap (λ (w : Outcome P). w.leaving) (run_more next x s l.0 o before after b a)
-        ∙ ap (λ m. (next m before after s.changes).memory) l.1 ∙ same_value _ p e in
+        ∙ ap (λ m. (next m before after s.changes).memory) l.1 ∙ same_Some _ p e in
         (l.0, here)
     leaving-advanced n time (r ∷ rows) left (suc i) p e = leaving-advanced n time rows (λ j. left (suc j)) i p e
 

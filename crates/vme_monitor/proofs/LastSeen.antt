@@ -3,17 +3,13 @@ use Rattle.std.proofs.Common.{◌≡◌, ◌≢◌, ◌⊎◌, ℕ, zero, suc, �
 use Rattle.std.proofs.Common.{sym, ◌∙◌, subst, arith, inl, inr, ⊎_elim, Option, Some, None}
 use mathlib.Core.Logic.{dite}
 use native.Mathlib.Decide.{ℕ_discrete}
-use Rattle.std.specs.Prelude.{slice_get, unwrap_or}
-use Rattle.std.proofs.lemmas.Option.{slice_get_within}
+use Rattle.std.specs.Prelude.{slice_get}
+use Rattle.std.proofs.lemmas.Option.{slice_get_within, same_Some}
 use Rattle.vme_trace.proofs.ListLaws.{slice_get-set_here, slice_get-set_elsewhere}
 use Rattle.vme_monitor.specs.Outcome.{nothing_shown}
 use Rattle.vme_monitor.specs.Walk.{outcome_of}
 use Rattle.vme_monitor.specs.declared.link.TableRow.{TableRow}
 use Rattle.vme_monitor.specs.Meeting.{AreAmong, AreLastSeen, AreDistinct, memories_in}
-
--- two options that are equal have equal values
-pub same_value : {A : Type 0} (x y : A) → Some x ≡ Some y → x ≡ y
-same_value {A} x y e = ap (λ (o : Option A). unwrap_or o x) e
 
 -- an option has a value
 abbrev Holds : {A : Type 0} → Option A → Type 0
@@ -28,7 +24,7 @@ module _ {A : Type 0} where
   -- an item of a list with x at the end is one of the list, or x at the index after it
   pub get_pushed : (xs : List A) (x y : A) (i : ℕ) → slice_get (xs ++ x ∷ []) i ≡ Some y → (slice_get xs i ≡ Some y) ⊎
       ((i ≡ length xs) × (y ≡ x))
-  get_pushed [] x y zero e = inr (refl, same_value y x (sym e))
+  get_pushed [] x y zero e = inr (refl, same_Some y x (sym e))
   get_pushed [] x y (suc i) e = absurd (no_value y e)
   get_pushed (z ∷ xs) x y zero e = inl e
   get_pushed (z ∷ xs) x y (suc i) e = ⊎_elim (λ a. inl a) (λ a. inr (ap suc a.0, a.1)) (get_pushed xs x y i e)
@@ -51,7 +47,7 @@ among_itself ms i p e = (i, e)
 module _ {P : Type 0} (place : P → ℕ) where
   -- memories whose places have their indices as entries of `last_seen` are at different places
   pub last_seen_distinct : (ms : List P) (last_seen : List ℕ) → AreLastSeen place ms last_seen → AreDistinct place ms
-  last_seen_distinct ms last_seen index_at_place i j p q a b same = same_value i j (sym (index_at_place i p a)
+  last_seen_distinct ms last_seen index_at_place i j p q a b same = same_Some i j (sym (index_at_place i p a)
       ∙ ap (λ k. slice_get last_seen k) same ∙ index_at_place j q b)
 
   -- the entries of `last_seen` at the places of ms are `stamp`
@@ -86,7 +82,7 @@ module _ {P : Type 0} (place : P → ℕ) where
       (get_pushed ms m p i a)
     where
       new : (r : P) (n : ℕ) → slice_get ms n ≡ Some r → place r ≡ place m → ⊥
-      new r n e at = other (same_value found stamp (sym there ∙ ap (λ n. slice_get last_seen n) (is ∙ sym at)
+      new r n e at = other (same_Some found stamp (sym there ∙ ap (λ n. slice_get last_seen n) (is ∙ sym at)
           ∙ stamped n r e))
 
   -- no memory of ms is at a place without an entry
@@ -98,7 +94,7 @@ module _ {P : Type 0} (place : P → ℕ) where
   -- if a memory of ms is at the place k, the entry at k is its index
   entry_of : (ms : List P) (last_seen : List ℕ) (k at : ℕ) → slice_get last_seen k ≡ Some at → AreLastSeen place ms
       last_seen → (i : ℕ) (p : P) → slice_get ms i ≡ Some p → place p ≡ k → at ≡ i
-  entry_of ms last_seen k at there index_at_place i p e same = same_value at i
+  entry_of ms last_seen k at there index_at_place i p e same = same_Some at i
       (sym there ∙ ap (λ n. slice_get last_seen n) (sym same) ∙ index_at_place i p e)
 
   -- no memory of ms is at a place whose entry is an index past ms
@@ -114,7 +110,7 @@ module _ {P : Type 0} (place : P → ℕ) where
       ≡ Some p → place p ≢ k
   none_elsewhere ms last_seen k at other there here ne index_at_place i p e same =
       ne (ap place
-      (same_value other p (sym here ∙ ap (λ n. slice_get ms n) (entry_of ms last_seen k at there index_at_place i p e
+      (same_Some other p (sym here ∙ ap (λ n. slice_get ms n) (entry_of ms last_seen k at there index_at_place i p e
       same) ∙ e)) ∙ same)
 
 -- a list with one memory more is among `others` if that memory is

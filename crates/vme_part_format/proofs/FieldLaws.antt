@@ -14,6 +14,7 @@ use Rattle.std.proofs.lemmas.List.{drop_at, get_or-drop, get_or-take, get_or_pas
 use Rattle.std.proofs.lemmas.List.{take-append-drop, take_at}
 use Rattle.std.proofs.lemmas.Nat.{from_le_bytes-to_le_bytes_2, from_le_bytes-to_le_bytes_4}
 use Rattle.std.proofs.lemmas.Nat.{from_le_bytes-to_le_bytes_8, le_bytes_2, le_bytes_4, le_bytes_8}
+use Rattle.std.proofs.lemmas.Option.{same_Some}
 use Rattle.vme_trace.specs.LineNumbers.{line_count}
 use Rattle.vme_trace.specs.Names.{rule_number}
 use Rattle.vme_trace.specs.Rules.{all_rules}
@@ -78,10 +79,6 @@ Ok-injective x y e = cc
 -- an option that has a value
 abbrev some_value : {A : Type 0} → A → Option A
 some_value x = Some x
-
--- options that are equal have equal values
-pub Some-injective : {A : Type 0} (x y : A) → some_value x ≡ some_value y → x ≡ y
-Some-injective x y e = cc
 
 -- if there is no fault, the option has the value
 pub or_fault-ok : {A : Type 0} (d : FieldFault) (o : Option A) (y : A) → or_fault d o ≡ Ok y → o ≡ Some y
@@ -217,7 +214,7 @@ unfolding is_numbered
 rule_number-at k [] n r ok e = absurd cc
 rule_number-at k (q ∷ rs) zero r ok e =
     let p = and_parts (eqb (rule_number q) k) (is_numbered (k + 1) rs) ok in
-    subst (λ (s : Rule). rule_number s ≡ k + 0) (Some-injective q r e) (omega (arith, eqb-true (rule_number q) k p.0))
+    subst (λ (s : Rule). rule_number s ≡ k + 0) (same_Some q r e) (omega (arith, eqb-true (rule_number q) k p.0))
 rule_number-at k (q ∷ rs) (suc n) r ok e =
     let p = and_parts (eqb (rule_number q) k) (is_numbered (k + 1) rs) ok in
     omega (arith, rule_number-at (k + 1) rs n r p.1 e)

@@ -8,6 +8,7 @@ use Rattle.std.specs.Prelude.{slice_get, unwrap_or}
 use Rattle.std.specs.List.{range_with_len}
 use Rattle.std.proofs.lemmas.Bool.{eqb-true}
 use Rattle.std.proofs.lemmas.List.FromFn.{length-map-range_with_len}
+use Rattle.std.proofs.lemmas.Option.{same_Some}
 use Rattle.vme_trace.specs.Levels.{Levels, level_at}
 use Rattle.vme_trace.specs.LineNumbers.{has_line, line_count}
 use Rattle.vme_trace.specs.declared.level.Level.{Level}
@@ -17,7 +18,7 @@ use Rattle.vme_part_format.specs.PartText.{level_code, levels_bytes, packed, qua
 use Rattle.vme_part_format.specs.Reading.{◌>>=◌, coded_level, fault_at, four, levels_at, or_fault, packed_at}
 use Rattle.vme_part_format.specs.Reading.{unpacked}
 use Rattle.vme_part_format.proofs.FieldLaws.{IsBytes, Takes, Takes-append, bind_ok, byte_at-ok, or_fault-ok}
-use Rattle.vme_part_format.proofs.FieldLaws.{Ok-injective, Some-injective}
+use Rattle.vme_part_format.proofs.FieldLaws.{Ok-injective}
 
 -- each of the levels, which are those of the lines from l on, is Unknown if the backplane doesn't have its line
 abbrev pub AreSeen : ℕ → ℕ → List Level → Type 0
@@ -35,16 +36,16 @@ coded_by-line_there : (zero-is one two : Bool) (code : ℕ) (a : Level) → zero
     → two ≡ eqb code 2
     → cond zero-is (Some Low) (cond one (Some High) (cond two (Some Unknown) None)) ≡ Some a → level_code a ≡ code
 coded_by-line_there true one two code a h0 h1 h2 e =
-    subst (λ (x : Level). level_code x ≡ code) (Some-injective Low a e) (sym (eqb-true code 0 (sym h0)))
+    subst (λ (x : Level). level_code x ≡ code) (same_Some Low a e) (sym (eqb-true code 0 (sym h0)))
 coded_by-line_there false true two code a h0 h1 h2 e =
-    subst (λ (x : Level). level_code x ≡ code) (Some-injective High a e) (sym (eqb-true code 1 (sym h1)))
+    subst (λ (x : Level). level_code x ≡ code) (same_Some High a e) (sym (eqb-true code 1 (sym h1)))
 coded_by-line_there false false true code a h0 h1 h2 e =
-    subst (λ (x : Level). level_code x ≡ code) (Some-injective Unknown a e) (sym (eqb-true code 2 (sym h2)))
+    subst (λ (x : Level). level_code x ≡ code) (same_Some Unknown a e) (sym (eqb-true code 2 (sym h2)))
 coded_by-line_there false false false code a h0 h1 h2 e = absurd cc
 
 -- a line that isn't there can only have the level Unknown
 coded_by-line_absent : (two : Bool) (a : Level) → cond two (Some Unknown) None ≡ Some a → (two ≡ true) × (Unknown ≡ a)
-coded_by-line_absent true a e = (refl, Some-injective Unknown a e)
+coded_by-line_absent true a e = (refl, same_Some Unknown a e)
 coded_by-line_absent false a e = absurd cc
 
 -- the level that a code is read as has this code, and is Unknown if the line isn't there
@@ -103,7 +104,7 @@ four-ok (Some a) (Some b) (Some c) (Some d) ls e =
       b-is = refl;
       c-is = refl;
       d-is = refl;
-      all = Some-injective (a ∷ b ∷ c ∷ d ∷ []) ls e;
+      all = same_Some (a ∷ b ∷ c ∷ d ∷ []) ls e;
     }
 four-ok None ob oc od ls e = absurd cc
 four-ok (Some a) None oc od ls e = absurd cc

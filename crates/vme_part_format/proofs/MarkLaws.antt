@@ -8,6 +8,7 @@ use Rattle.std.proofs.Common.{◌∙◌, append_assoc, arith, inl, inr, ◌⊎�
 use Rattle.std.specs.Prelude.{nat_le, nat_lt}
 use Rattle.std.specs.Int.{w16, w32, w64, to_le_bytes}
 use Rattle.std.proofs.lemmas.Bool.{and_parts, eqb-true, eq-eqb, leb-true, le-leb, lt-ltb, ltb-true}
+use Rattle.std.proofs.lemmas.Option.{same_Some}
 use Rattle.vme_trace.specs.LineNumbers.{DTACK, BERR}
 use Rattle.vme_trace.specs.declared.class.Class.{Class}
 use Rattle.vme_trace.specs.declared.class.Class.TheVariants as class
@@ -27,7 +28,7 @@ use Rattle.vme_part_format.specs.Reading.{kind_at, mark_at, marks_at, moved_of, 
 use Rattle.vme_part_format.specs.Reading.{write_answer_at}
 use Rattle.vme_part_format.proofs.FieldLaws.{IsBytes, Takes, Takes-append, bind_ok, byte_at-ok, or_fault-ok}
 use Rattle.vme_part_format.proofs.FieldLaws.{cond-ok_then_err}
-use Rattle.vme_part_format.proofs.FieldLaws.{number_at-of_bytes, number_at-ok, Ok-injective, Some-injective, wide16}
+use Rattle.vme_part_format.proofs.FieldLaws.{number_at-of_bytes, number_at-ok, Ok-injective, wide16}
 use Rattle.vme_part_format.proofs.FieldLaws.{wide32, wide64}
 
 -- case distinction: a test gave y by its first branch, or by the others
@@ -174,11 +175,11 @@ cycle_at-ok bad c bytes x fits e =
 -- the moved bytes that the code n is read as have this code
 moved_code-moved_of : (n : ℕ) (m : MovedBytes) → moved_of n ≡ Some m → moved_code m ≡ n
 moved_code-moved_of n m e =
-    cond-either (eqb n 0) _ _ (Some m) e (λ t s. rw (← Some-injective Nothing m s) (sym (eqb-true n 0 t))) (λ e1.
-    cond-either (eqb n 1) _ _ (Some m) e1 (λ t s. rw (← Some-injective OddByte m s) (sym (eqb-true n 1 t))) (λ e2.
-    cond-either (eqb n 2) _ _ (Some m) e2 (λ t s. rw (← Some-injective EvenByte m s) (sym (eqb-true n 2 t))) (λ e3.
-    cond-either (eqb n 3) _ _ (Some m) e3 (λ t s. rw (← Some-injective Word m s) (sym (eqb-true n 3 t))) (λ e4.
-    cond-either (eqb n 4) _ _ (Some m) e4 (λ t s. rw (← Some-injective LongWord m s) (sym (eqb-true n 4 t)))
+    cond-either (eqb n 0) _ _ (Some m) e (λ t s. rw (← same_Some Nothing m s) (sym (eqb-true n 0 t))) (λ e1.
+    cond-either (eqb n 1) _ _ (Some m) e1 (λ t s. rw (← same_Some OddByte m s) (sym (eqb-true n 1 t))) (λ e2.
+    cond-either (eqb n 2) _ _ (Some m) e2 (λ t s. rw (← same_Some EvenByte m s) (sym (eqb-true n 2 t))) (λ e3.
+    cond-either (eqb n 3) _ _ (Some m) e3 (λ t s. rw (← same_Some Word m s) (sym (eqb-true n 3 t))) (λ e4.
+    cond-either (eqb n 4) _ _ (Some m) e4 (λ t s. rw (← same_Some LongWord m s) (sym (eqb-true n 4 t)))
     (λ e5. absurd cc)))))
 
 -- the code of moved bytes is read as these

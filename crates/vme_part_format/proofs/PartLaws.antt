@@ -9,8 +9,9 @@ use Rattle.std.specs.Prelude.{bytes_eq, flat_map, nat_le}
 use Rattle.std.specs.Int.{w32, w64, from_le_bytes, to_le_bytes}
 use Rattle.std.proofs.lemmas.Bool.{and_from, and_parts, eq-eqb, eqb-true, le-leb, leb-true}
 use Rattle.std.proofs.lemmas.List.{append-nil, drop-take, drop_at, take-append-drop, take-take, take_at}
+use Rattle.std.proofs.lemmas.List.{nil_from_length}
 use Rattle.std.proofs.lemmas.Nat.{from_le_bytes-to_le_bytes_8}
-use Rattle.std.proofs.lemmas.Slice.Eq.{bytes_eq-Decides}
+use Rattle.vme_trace.proofs.NameLaws.{bytes_eq-same}
 use Rattle.vme_part_format.specs.declared.fault.PartFaultKind.TheVariants as fault
 use Rattle.vme_part_format.specs.declared.fault.FieldFault.{FieldFault}
 use Rattle.vme_part_format.specs.declared.fault.PartFault.{PartFault}
@@ -27,11 +28,6 @@ use Rattle.vme_part_format.proofs.FieldLaws.{flag_at-ok, cond-ok_then_err, numbe
 use Rattle.vme_part_format.proofs.FieldLaws.{wide64}
 use Rattle.vme_part_format.proofs.SegmentLaws.{segments_at-of_bytes, segments_at-ok}
 use Rattle.vme_part_format.proofs.SumLaws.{with_sum-differ_in_more, fold_summed-below}
-
--- a list of the length 0 is empty
-length_zero-no_bytes : (xs : List ℕ) → length xs ≡ 0 → xs ≡ []
-length_zero-no_bytes [] e = refl
-length_zero-no_bytes (x ∷ xs) e = absurd (omega (arith, e))
 
 -- the body that is read is that of a part within its bounds, whose bytes these are
 pub body_at-ok : (bytes : List ℕ) (p : PartValue) → IsBytes bytes → body_at bytes ≡ Ok p
@@ -56,7 +52,7 @@ body_at-ok bytes p fits e =
     let t03 = Takes-append bytes (to_le_bytes w64 a.0.0) a.0.1 (flag b.0.0 ∷ (to_le_bytes w32 (length d.0.0) ++ text))
     d.0.1
     t0.0 t13 in
-    let end : d.0.1 ≡ [] = length_zero-no_bytes d.0.1 (eqb-true (length d.0.1) 0 g.0) in
+    let end : d.0.1 ≡ [] = nil_from_length d.0.1 (eqb-true (length d.0.1) 0 g.0) in
     let front = flag b.0.0 ∷ to_le_bytes w32 (length d.0.0) in
     let grouped : to_le_bytes w64 a.0.0 ++ (front ++ text) ≡ body_bytes whole =
     sym (append_assoc (to_le_bytes w64 a.0.0) front text) in
@@ -107,10 +103,6 @@ part_ok-injective x y e = cc
 with_place_ok : {A : Type 0} (end : ℕ) (r : Result A FieldFault) (y : A) → with_place end r ≡ Ok y → r ≡ Ok y
 with_place_ok end (Ok x) y e = ap body_ok (part_ok-injective x y e)
 with_place_ok end (Err f) y e = absurd cc
-
--- bytes that the test finds equal are equal
-bytes_eq-same : (xs ys : List ℕ) → bytes_eq xs ys ≡ true → xs ≡ ys
-bytes_eq-same xs ys e = (bytes_eq-Decides xs ys).0 e
 
 -- the first 8 of at least 8 bytes that are taken are the first 8
 take-eight : (bytes : List ℕ) (n : ℕ) → 8 ≤ n → take 8 (take n bytes) ≡ take 8 bytes

@@ -8,6 +8,7 @@ use Rattle.std.specs.Prelude.{flat_map, nat_le, nat_lt}
 use Rattle.std.specs.Int.{w64, to_le_bytes}
 use Rattle.std.proofs.lemmas.Bool.{and_from, and_parts, eq-eqb, eqb-true, le-leb, leb-true, lt-ltb, ltb-true}
 use Rattle.std.proofs.Math.Pow.{pow-lt}
+use Rattle.std.proofs.lemmas.Option.{same_Some}
 use Rattle.vme_trace.specs.Levels.{Levels}
 use Rattle.vme_part_format.specs.declared.fault.PartFaultKind.TheVariants as fault
 use Rattle.vme_part_format.specs.declared.fault.FieldFault.{FieldFault}
@@ -23,7 +24,7 @@ use Rattle.vme_part_format.specs.Reading.{step_times_at, table_at, times_at}
 use Rattle.vme_part_format.specs.Tables.{SegmentValue, TableValue, last_of}
 use Rattle.vme_part_format.proofs.FieldLaws.{IsBytes, Takes, Takes-append, bind_ok, byte_at-ok, flag_at-ok}
 use Rattle.vme_part_format.proofs.FieldLaws.{cond-ok_then_err, number_at-of_bytes, number_at-ok, Ok-injective}
-use Rattle.vme_part_format.proofs.FieldLaws.{Some-injective, wide64}
+use Rattle.vme_part_format.proofs.FieldLaws.{wide64}
 use Rattle.vme_part_format.proofs.LevelFacts.{LevelsRead, levels_at-of_bytes, levels_at-ok}
 use Rattle.vme_part_format.proofs.TableLaws.{TableTaken, table_at-of_bytes, table_at-ok}
 
@@ -121,10 +122,6 @@ TimesRead there bytes x =
     (text : List ℕ) × (flag there ∷ text ≡ times_bytes x.0) × Takes bytes text x.1
     × ((t : SegmentTimes) → x.0 ≡ Some t → t.last < 2 ^ 64)
 
--- times that are equal as options are equal
-times-injective : (a b : SegmentTimes) → Some a ≡ Some b → a ≡ b
-times-injective a b e = Some-injective a b e
-
 -- the times that are read after their flag stand there
 step_times_at-ok : (there : Bool) (bytes : List ℕ) (x : Option SegmentTimes × List ℕ) → IsBytes bytes
     → step_times_at there bytes ≡ Ok x → TimesRead there bytes x
@@ -152,7 +149,7 @@ step_times_at-ok true bytes x fits e =
       to_le_bytes w64 a.0.0 ++ (to_le_bytes w64 b.0.0 ++ to_le_bytes w64 c.0.0),
       refl,
       t02,
-      λ t h. subst (λ (s : SegmentTimes). s.last < 2 ^ 64) (times-injective times t h) t2.1,
+      λ t h. subst (λ (s : SegmentTimes). s.last < 2 ^ 64) (same_Some times t h) t2.1,
     )
 
 -- times that pass the test, of which the last is below 2^64, are within their bounds

@@ -9,6 +9,7 @@ use Rattle.std.specs.Int.{w32, to_le_bytes}
 use Rattle.std.proofs.lemmas.Bool.{ltb-true, lt-ltb, eqb-false, eqb-true, false_from_ne_true}
 use Rattle.std.proofs.lemmas.Grind.{flat_map-append}
 use Rattle.std.proofs.lemmas.List.Elements.{All-append, All-cons, All-nil}
+use Rattle.std.proofs.lemmas.List.{nil_from_length}
 use Rattle.vme_trace.proofs.ListLaws.{All-front, All-back}
 use Rattle.vme_part_format.specs.declared.fault.PartFaultKind.TheVariants as fault
 use Rattle.vme_part_format.specs.declared.table.TableEntry.{TableEntry}
@@ -238,18 +239,13 @@ node_count_at-without_marks memories bytes x e =
     let g = cond-ok_then_err (nat_lt (memories + 0) (2 ^ 32)) (fault_at fault.BadWay bytes) (0, bytes) x e in
     sym (ap (λ (y : ℕ × List ℕ). y.0) g.1)
 
--- a list of the length 0 is empty
-length_zero-nil : {A : Type 0} (xs : List A) → length xs ≡ 0 → xs ≡ []
-length_zero-nil [] e = refl
-length_zero-nil (x ∷ xs) e = absurd (omega (arith, e))
-
 -- as many nodes as were read for a table are none in a part without marks
 HasNodes-of_count : (listing : Bool) (memories : ℕ) (bytes : List ℕ) (x : ℕ × List ℕ) (ns : List NodeValue) → length ns
     ≡ x.0
     → node_count_at listing memories bytes ≡ Ok x → HasNodes listing ns
 HasNodes-of_count true memories bytes x ns len e = tt
 HasNodes-of_count false memories bytes x ns len e =
-    length_zero-nil ns (len ∙ node_count_at-without_marks memories bytes x e)
+    nil_from_length ns (len ∙ node_count_at-without_marks memories bytes x e)
 
 -- entries that fit and can be written fit
 FitsEntry-of_AreEntries : (listing : Bool) (steps ways : ℕ) (es : List TableEntry) → AreEntries listing steps ways es

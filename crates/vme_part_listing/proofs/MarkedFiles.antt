@@ -7,7 +7,6 @@ use Rattle.std.specs.Option.{option_map}
 use Rattle.std.proofs.Math.Seq.{take-add}
 use Rattle.std.proofs.lemmas.List.{drop_all, length-map}
 use Rattle.std.proofs.lemmas.List.Elements.{All-contains, All-head, All-tail}
-use Rattle.std.proofs.lemmas.Nat.{pow_pos}
 use Rattle.vme_trace.specs.Blocks.{joined_steps}
 use Rattle.vme_trace.specs.Levels.{Levels}
 use Rattle.vme_trace.specs.Trace.{Trace, levels_after}
@@ -47,6 +46,7 @@ use Rattle.vme_parts.proofs.SegmentLemmas.{TellsAll-stands_for}
 use Rattle.vme_parts.proofs.ToldFiles.{Contains-segment_at, drop-segment_values}
 use Rattle.vme_parts.proofs.WholeFiles.{HasComeTo, HasComeTo-first, HasComeTo-next, take-and_files_of}
 use Rattle.vme_parts.proofs.WholeFiles.{FoundAll-judged_files}
+use Rattle.vme_parts.proofs.Covered.{AreNext-not_before}
 
 -- if the runs are `before` after `steps` steps, and the tables of s agree with the steps after these, then the runs are
 -- `after` after both
@@ -92,12 +92,6 @@ BlocksJoin-front xs ys j =
       follow = λ before after a b e.
           j.follow before (after ++ ys) a b (ap (λ l. l ++ ys) e ∙ append_assoc before (a ∷ b ∷ after) ys);
     }
-
--- segments that follow one another from the file n to end - 1 don't end before n
-AreNext-not_before : (n : ℕ) (ss : List SegmentValue) (end : ℕ) → AreNext n ss end → n ≤ end
-AreNext-not_before n [] end a = omega (arith, a)
-AreNext-not_before n (s ∷ ss) end a =
-    omega (arith, a.0, pow_pos s.order, AreNext-not_before (last_of s.first s.order + 1) ss end a.1)
 
 -- if the files bs, ys and `rest` follow one another, and 64 bits count their steps, judging doesn't stop at ys
 not_StopsAt-joined : (bs ys rest : List Block) (why : JudgingFault) → BlocksJoin ((bs ++ ys) ++ rest)

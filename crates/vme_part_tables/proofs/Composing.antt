@@ -165,7 +165,7 @@ run_from_leaving m (n ∷ ns) w g h = by_order (λ w h. run_from_leaving m ns w 
         rw (run_from_past m n ns w k) (more (w - 1) below)
 
 -- the outcome from the memory k is that of its entry, if it has one
-outcome_in-entry : (t : TableValue) (k : ℕ) (e : TableEntry) → slice_get t.entries k ≡ Some e → outcome_in t k
+pub outcome_in-entry : (t : TableValue) (k : ℕ) (e : TableEntry) → slice_get t.entries k ≡ Some e → outcome_in t k
     ≡ entry_outcome t e
 outcome_in-entry t k e h = rw h refl
 

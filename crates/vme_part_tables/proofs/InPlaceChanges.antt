@@ -1,19 +1,13 @@
 -- A loop that changes a list in place, element by element: what holds after one more element.
 use Rattle.std.proofs.Common.{◌≡◌, ℕ, zero, suc, ◌+◌, ◌-◌, ◌<◌, List, [], ◌∷◌, ◌++◌, length, get_or, take, drop}
 use Rattle.std.proofs.Common.{map, refl, ap}
-use Rattle.std.proofs.Common.{sym, ◌∙◌, add-zero, add-one, arith, Some}
+use Rattle.std.proofs.Common.{sym, ◌∙◌, add-one, arith, Some}
 use Rattle.std.specs.Prelude.{slice_get}
 use Rattle.std.proofs.Math.ListN.{get_or-map, set}
-use Rattle.std.proofs.lemmas.List.{get_or-drop, length-map, map-append, take_more, take_more_set}
+use Rattle.std.proofs.lemmas.List.{length-map, map-append, take_more, take_more_set}
 use Rattle.std.proofs.lemmas.Option.{slice_get-get_or}
+use Rattle.vme_monitor.proofs.Stepped.{get_or-same_rest}
 use Rattle.vme_part_tables.specs.Composed.{map_rest}
-
--- if two lists are equal from index i on, their items i are equal
-pub get_or-same_from : {A : Type 0} (xs ys : List A) (i : ℕ) (d : A) → drop i xs ≡ drop i ys → get_or ys i d
-    ≡ get_or xs i d
-get_or-same_from {A} xs ys i d e = rw add-zero at
-    (sym (get_or-drop i ys 0 d) ∙ (sym (ap (λ (l : List A). get_or l 0 d) e)
-    ∙ get_or-drop i xs 0 d))
 
 -- an element within a list doesn't depend on the default
 pub get_or-any_default : {A : Type 0} (xs : List A) (i : ℕ) (d e : A) → i < length xs → get_or xs i d ≡ get_or xs i e
@@ -29,7 +23,7 @@ pub take-map_one_more : {A : Type 0} (g : A → A) (xs ys : List A) (i : ℕ) (x
     → take (i + 1) (set xs i y) ≡ map g (take (i + 1) ys)
 take-map_one_more g xs ys i x y h n r e done rest =
     let k : i < length ys = rw (← n) h in
-    let s : get_or ys i x ≡ x = get_or-same_from xs ys i x rest ∙ sym r in
+    let s : get_or ys i x ≡ x = get_or-same_rest xs ys i x rest ∙ sym r in
     rw (take_more_set xs i y h, take_more ys i x k, s, map-append g (take i ys) (x ∷ []), done, e) refl
 
 -- the first i + 1 elements of `map_rest g ys` are the first i, and element i changed by g of the number of elements
@@ -52,7 +46,7 @@ take-map_rest_set f g xs ys i j x y h n r b e done rest =
     let m = map_rest g (map f ys) in
     let k : i < length (map f ys) = rw (length-map ys f, ← n) h in
     let there : get_or (map f ys) i (f x) ≡ f x
-    = get_or-map f ys i x ∙ ap f (get_or-same_from xs ys i x rest ∙ sym r) in
+    = get_or-map f ys i x ∙ ap f (get_or-same_rest xs ys i x rest ∙ sym r) in
     let count_after : length (map f ys) - suc i ≡ j = omega (arith, length-map ys f) in
     let to : take (i + 1) m ≡ take i m ++ g j (f x) ∷ [] =
     ap (λ n. take n m) (add-one i)

@@ -12,12 +12,13 @@ use Rattle.std.proofs.lemmas.List.Elements.{All-map}
 use Rattle.std.proofs.lemmas.Option.{slice_get-map, slice_get_cases}
 use Rattle.vme_part_format.specs.Tables.{NodeValue, TableValue}
 use Rattle.vme_part_format.specs.declared.table.TableEntry.{TableEntry}
-use Rattle.vme_part_tables.specs.Ways.{HasWays, NodesGoOn, ended_in, entry_outcome, outcome_in}
+use Rattle.vme_part_tables.specs.Ways.{HasWays, NodesGoOn, ended_in, outcome_in}
 use Rattle.vme_part_tables.specs.Ways.{run_from}
 use Rattle.vme_part_tables.specs.Pruned.{AreCounts, KeepsWays, IsKept, KeptGoOn, entry_kept, kept_count, next_kept}
 use Rattle.vme_part_tables.specs.Pruned.{node_kept}
 use Rattle.vme_part_tables.specs.Pruned.{nodes_kept, table_kept}
 use Rattle.vme_part_tables.proofs.Walking.{run_from_here, run_from_memory, run_from_past}
+use Rattle.vme_part_tables.proofs.Composing.{outcome_in-entry}
 
 -- of no nodes none is kept
 kept_count-none : (bs : List Bool) → kept_count (take 0 bs) ≡ 0
@@ -180,11 +181,6 @@ module _ (m : ℕ) where
       by_place (inl h) = inr h
       by_place (inr h) =
           inl (rw (next_kept-node bs w h) (omega (arith, kept_count-before_kept bs (w - m) (k h).0 (k h).1)))
-
--- the outcome from a memory that has an entry is that of the entry
-outcome_in-entry : (t : TableValue) (k : ℕ) (e : TableEntry) → slice_get t.entries k ≡ Some e → outcome_in t k
-    ≡ entry_outcome t e
-outcome_in-entry t k e h = rw h refl
 
 -- a run from a memory that has no entry ends there
 outcome_in-no_entry : (t : TableValue) (k : ℕ) → slice_get t.entries k ≡ None → outcome_in t k ≡ ended_in k

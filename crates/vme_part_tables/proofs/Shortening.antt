@@ -11,6 +11,7 @@ use Rattle.std.specs.Option.{option_map, option_map_or, option_or}
 use Rattle.std.proofs.lemmas.Bool.{lt-ltb, le-ltb, cases_order, cases_lt}
 use Rattle.std.proofs.lemmas.List.{length-map, length-set, map-set, nil_from_length}
 use Rattle.std.proofs.lemmas.Option.{get_or_from_slice_get, slice_get-get_or, slice_get-map, slice_get_within}
+use Rattle.vme_trace.proofs.ListLaws.{last_or-slice_get}
 use Rattle.vme_part_format.specs.Bounds.{FitMarks, FitNodes, FitsBreak, FitsNode, FitsTable, HasNodes}
 use Rattle.vme_part_format.specs.Tables.{NodeValue, TableValue, node_value}
 use Rattle.vme_part_format.specs.declared.table.TableEntry.{TableEntry}
@@ -283,18 +284,6 @@ merged_next-bound m ns place between may g few past =
     below (inr memory) = absurd (omega (arith, memory, past))
 
 -- ---- marks as they lie
-
--- the last element of a list that isn't empty is the one at its last index
-last_or-at : {A : Type 0} (o : Option A) (x : A) (xs : List A) → last_or o (x ∷ xs) ≡ slice_get (x ∷ xs) (length xs)
-last_or-at o x [] = refl
-last_or-at o x (y ∷ ys) = last_or-at (Some x) y ys
-
--- the last element of a list, if there is one, is that at its length less 1
-last_or-slice_get : {A : Type 0} (xs : List A) → last_or None xs ≡ slice_get xs (length xs - 1)
-last_or-slice_get [] = refl
-last_or-slice_get (x ∷ xs) =
-    let before : length xs ≡ length (x ∷ xs) - 1 = omega arith in
-    last_or-at None x xs ∙ ap (slice_get (x ∷ xs)) before
 
 -- two lists of marks are in order if the last mark of the first isn't later than the first of the second
 pub AreInOrder-by_ends : (ms ks : List WideMark) (a b : WideMark) → slice_get ms (length ms - 1) ≡ Some a

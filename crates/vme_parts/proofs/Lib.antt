@@ -18,7 +18,7 @@ mod Likeness
 pub mod StateLemmas
 pub mod SegmentLemmas
 mod TornFiles
-mod Covered
+pub mod Covered
 pub mod WholeFiles
 pub mod ToldFiles
 mod Measures

@@ -12,6 +12,7 @@ use Rattle.vme_trace.specs.Trace.{changed, levels_after}
 use Rattle.vme_trace.specs.WellFormed.{malformed_step}
 use Rattle.vme_trace.specs.declared.block.Block.{Block}
 use Rattle.vme_trace.specs.declared.step.Step.{Step}
+use Rattle.vme_trace.proofs.ListLaws.{last_or-slice_get}
 use Rattle.vme_monitor.specs.KnownRules.{stateless_place}
 use Rattle.vme_monitor.specs.OverStretches.{phase_place}
 use Rattle.vme_monitor.specs.Runs.{levels_after-append}
@@ -23,7 +24,6 @@ use Rattle.vme_summary.specs.Extents.{IsExtent}
 use Rattle.vme_summary.specs.Joins.{first_time, last_time}
 use Rattle.vme_summary.specs.Runs.{known_run, handshake_run, stability_run, grant_run, acknowledge_run}
 use Rattle.vme_summary.proofs.Extents.{BlocksJoin-one, AreSound-one}
-use Rattle.vme_summary.proofs.Times.{last_or-slice_get}
 use Rattle.vme_part_format.specs.Tables.{PartValue, SegmentValue, last_of}
 use Rattle.vme_part_format.specs.declared.segment.SegmentTimes.{SegmentTimes}
 use Rattle.vme_part_tables.specs.Runs.{AgreesWithRuns}

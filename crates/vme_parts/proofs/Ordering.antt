@@ -12,7 +12,8 @@ use Rattle.std.proofs.lemmas.List.{drop-map, get_or-map, length-map, take_all}
 use Rattle.std.proofs.lemmas.List.Elements.{All-contains, All-drop, All-map, All-same, All-tail}
 use Rattle.std.proofs.lemmas.List.Sorted.{IsNonDecreasingBy-drop}
 use Rattle.std.proofs.lemmas.Option.{get_or_from_slice_get, slice_get-map, slice_get_within}
-use Rattle.vme_summary.proofs.Times.{last_or-append, last_or-slice_get}
+use Rattle.vme_trace.proofs.ListLaws.{last_or-slice_get}
+use Rattle.vme_summary.proofs.Times.{last_or-append}
 use Rattle.vme_part_format.specs.Tables.{SegmentValue, last_of, segment_value}
 use Rattle.vme_part_format.specs.declared.segment.Segment.{Segment}
 use Rattle.vme_parts.specs.Gathering.{Ascend, BeginsInLast, Gathered, IsSegment, Precedes, order_key}
@@ -121,7 +122,7 @@ Gathered-in_last done ss s b all p order g =
     Gathered-within done ss s b.last g there (lies_within b.last s q.numbers p.numbers before b.within)
 
 -- a segment of a list satisfies `IsSegment` if all do
-IsSegment-item : (xs : List Segment) (k : ℕ) (d : Segment) → k < length xs → All IsSegment (map segment_value xs)
+pub IsSegment-item : (xs : List Segment) (k : ℕ) (d : Segment) → k < length xs → All IsSegment (map segment_value xs)
     → IsSegment (segment_value (get_or xs k d))
 IsSegment-item xs k d h all =
     subst IsSegment (get_or-map segment_value xs k d (segment_value d) h)

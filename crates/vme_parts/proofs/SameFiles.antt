@@ -9,20 +9,13 @@ use Rattle.vme_part_format.specs.Tables.{SegmentValue, TableValue, segment_value
 use Rattle.vme_part_format.specs.declared.segment.Segment.{Segment}
 use Rattle.vme_parts.specs.Alike.{AllAlike, AreAlike, AreTablesAlike, HaveSameFiles, SegmentsDifferAt}
 use Rattle.vme_parts.specs.Gathering.{IsSegment, Precedes, order_key}
-use Rattle.vme_parts.proofs.Ordering.{Precedes-by_key}
+use Rattle.vme_parts.proofs.Ordering.{Precedes-by_key, IsSegment-item}
 
 -- an element within a list doesn't depend on the default
 get_or-any_default : (xs : List Segment) (i : ℕ) (d e : Segment) → i < length xs → get_or xs i d ≡ get_or xs i e
 get_or-any_default [] i d e h = absurd (omega (arith, h))
 get_or-any_default (x ∷ xs) zero d e h = refl
 get_or-any_default (x ∷ xs) (suc i) d e h = get_or-any_default xs i d e (omega (arith, h))
-
--- the segment with the index k satisfies `IsSegment` if all do
-IsSegment-at_index : (xs : List Segment) (k : ℕ) (d : Segment) → k < length xs → All IsSegment (map segment_value xs)
-    → IsSegment (segment_value (get_or xs k d))
-IsSegment-at_index xs k d h all =
-    subst IsSegment (get_or-map segment_value xs k d (segment_value d) h)
-    (all k (segment_value d) (omega (arith, h, length-map xs segment_value)))
 
 -- ---- outcomes that agree
 
@@ -144,8 +137,8 @@ module _ (xs : List Segment) (all : All IsSegment (map segment_value xs))
   -- a segment precedes itself and those after it
   Precedes-in_order : (i j : ℕ) (d : Segment) → i ≤ j → j < length xs → Precedes (value_at i d) (value_at j d)
   Precedes-in_order i j d le h =
-      let p = IsSegment-at_index xs i d (omega (arith, le, h)) all in
-      let q = IsSegment-at_index xs j d h all in
+      let p = IsSegment-item xs i d (omega (arith, le, h)) all in
+      let q = IsSegment-item xs j d h all in
       Precedes-by_key (value_at i d) (value_at j d) p.numbers.few q.numbers.few (sorted i j d le h)
 
   -- segments of the same files agree if they are n places apart

@@ -1,8 +1,8 @@
 -- Laws of options and of lists, for the proofs of this crate and of those above it.
-use Rattle.std.proofs.Common.{◌≡◌, ◌≢◌, ◌⊎◌, ℕ, zero, suc, ◌+◌, ◌<◌, List, [], ◌∷◌, ◌++◌, length, set, take, drop}
+use Rattle.std.proofs.Common.{◌≡◌, ◌≢◌, ◌⊎◌, ℕ, zero, suc, ◌+◌, ◌-◌, ◌<◌, List, [], ◌∷◌, ◌++◌, length, set, take, drop}
 use Rattle.std.proofs.Common.{refl, sym, ap, ◌∙◌, arith, inl, inr, ⊎_elim}
 use Rattle.std.specs.Prelude.{All, Option, None, Some, slice_get}
-use Rattle.std.specs.List.{AllZip}
+use Rattle.std.specs.List.{AllZip, last_or}
 use Rattle.std.specs.Option.{option_or}
 use Rattle.std.proofs.Math.Nat.{zero-add}
 use Rattle.std.proofs.Math.Seq.{drop-append_seam, take-append_seam}
@@ -13,6 +13,18 @@ use Rattle.std.proofs.lemmas.Option.{none-some, same_Some}
 pub option_or-none : {A : Type 0} (o : Option A) → option_or o None ≡ o
 option_or-none None = refl
 option_or-none (Some a) = refl
+
+-- the last element is the one at the last index
+last_or-at : {A : Type 0} (o : Option A) (x : A) (xs : List A) → last_or o (x ∷ xs) ≡ slice_get (x ∷ xs) (length xs)
+last_or-at o x [] = refl
+last_or-at o x (y ∷ ys) = last_or-at (Some x) y ys
+
+-- the last element of a list, if there is one, is that at its length less 1
+pub last_or-slice_get : {A : Type 0} (xs : List A) → last_or None xs ≡ slice_get xs (length xs - 1)
+last_or-slice_get [] = refl
+last_or-slice_get (x ∷ xs) =
+    let before : length xs ≡ length (x ∷ xs) - 1 = omega arith in
+    last_or-at None x xs ∙ ap (slice_get (x ∷ xs)) before
 
 -- the element after those of `xs` is `y`
 pub slice_get-here : {A : Type 0} (xs : List A) (y : A) (ys : List A) → slice_get (xs ++ y ∷ ys) (length xs) ≡ Some y

@@ -1,14 +1,14 @@
 use Rattle.std.proofs.Common.{rules, ap, sym, subst, ◌∙◌}
-use Rattle.vme_monitor.proofs.Stepped.{drop-set_next}
+use Rattle.vme_monitor.proofs.Stepped.{drop-set_next, get_or-same_rest}
 use Rattle.vme_part_format.specs.declared.table.TableEntry.{TableEntry}
 use Rattle.vme_part_tables.specs.Pruned.{IsKept, entry_kept}
-use Rattle.vme_part_tables.proofs.InPlaceChanges.{get_or-same_from, take-map_one_more}
+use Rattle.vme_part_tables.proofs.InPlaceChanges.{take-map_one_more}
 use Rattle.vme_part_tables.proofs.prune.renumber_entries.Goals as goal
 
 pub renumber_entry-requires-clause-kept : goal.renumber_entry-requires-clause-kept
 renumber_entry-requires-clause-kept c =
     subst (λ (e : TableEntry). IsKept c.args.memories c.args.keeps.now e.next)
-    (get_or-same_from c.loop-entry.entries c.args.entries.now c.loop-entry.entry-index c.entry-item.result
+    (get_or-same_rest c.loop-entry.entries c.args.entries.now c.loop-entry.entry-index c.entry-item.result
     c.loop-entry.invariant.rest)
     (c.requires.kept c.loop-entry.entry-index c.entry-item.result (search rules))
 

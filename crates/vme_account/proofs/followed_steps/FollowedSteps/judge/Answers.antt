@@ -1,8 +1,8 @@
 use Rattle.std.proofs.Common.{◌∙◌, List, ap, sym}
+use Rattle.std.proofs.lemmas.Result.{on_ok_weaker}
 use Rattle.vme_monitor.specs.StepRuns.{seen_in}
 use Rattle.vme_trace.specs.declared.step.Change.{Change}
 use Rattle.vme_account.proofs.FollowLemmas.{follows-judged}
-use Rattle.vme_account.proofs.MarkedLemmas.{OnOk-implied}
 use Rattle.vme_account.proofs.followed_steps.FollowedSteps.judge.Goals as goal
 
 pub go_to-requires : goal.go_to-requires
@@ -17,7 +17,7 @@ take-outcome-requires c =
 
 pub returns : goal.returns
 returns c = λ o x f at.
-    OnOk-implied c.take-outcome.result
+    on_ok_weaker c.take-outcome.result
     (λ notes. follows-judged o x c.args.step.now c.args.self.now f c.requires.quiet c.args.instant at
     c.as_slice-changes.result.now c.as_slice-changes.ensures c.go_to.new.self c.go_to.ensures.seen
     c.go_to.ensures.before c.go_on-shown.result c.go_on-shown.new.self c.go_on-shown.ensures c.take-outcome.new.self

@@ -1,5 +1,5 @@
 use Rattle.std.proofs.Common.{◌+◌, ◌∙◌, ap}
-use Rattle.vme_account.proofs.MarkedLemmas.{OnOk-implied}
+use Rattle.std.proofs.lemmas.Result.{on_ok_weaker}
 use Rattle.vme_account.proofs.running_account.RunningAccount.take.Goals as goal
 
 pub take-requires : goal.take-requires
@@ -14,7 +14,7 @@ take-requires-2 c =
 
 pub returns : goal.returns
 returns c =
-    OnOk-implied c.take-2.result
+    on_ok_weaker c.take-2.result
     (λ kept o x keeps. record {
       judged = c.in_ok-take.ensures o x keeps.judged (ap (λ n. n + 1) (c.steps.ensures ∙ keeps.kept.counted));
       kept = kept o x keeps.kept;
