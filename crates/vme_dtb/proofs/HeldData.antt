@@ -15,7 +15,7 @@ use Rattle.vme_trace.specs.Data.{is_selected}
 use Rattle.vme_trace.specs.Trace.{Trace, levels_at, changed}
 use Rattle.vme_trace.specs.Signals.{known, high, has_edge}
 use Rattle.vme_trace.specs.Judged.{Stretch, is_judged}
-use Rattle.vme_trace.specs.Transfers.{strobes_high, strobe_rises, strobe_falls, answer_falls, transfer_starts, lasts}
+use Rattle.vme_trace.specs.Transfers.{strobes_high, strobe_rises, strobe_falls, answer_falls, lasts}
 use Rattle.vme_trace.specs.Transfers.{is_answered, is_write, in_transfer}
 use Rattle.vme_trace.specs.Rules.{breaks, is_broken}
 use Rattle.vme_trace.specs.Verdict.{break_before}
@@ -24,13 +24,13 @@ use Rattle.vme_trace.specs.WellFormed.{are_changes}
 use Rattle.vme_trace.specs.declared.rule.Rule.TheVariants.{U4, S3}
 use Rattle.vme_trace.specs.declared.step.Change.{Change}
 use Rattle.vme_trace.proofs.Changing.{first_changed-least_alike, level-kept}
-use Rattle.vme_trace.proofs.OpenTransfers.{ReadsStrobes, suc-sub-one, in_transfer-is, in_transfer-levels}
-use Rattle.vme_trace.proofs.Ranges.{any-fails, any-step, clash, fails-any, least-alike, least-none}
+use Rattle.vme_trace.proofs.OpenTransfers.{ReadsStrobes, suc-sub-one}
+use Rattle.vme_trace.proofs.Ranges.{any-step, clash, fails-any, least-alike, least-none}
 use Rattle.vme_trace.proofs.StretchEnds.{slots_at}
 use Rattle.vme_monitor.specs.Tracking.{entered, is_writing}
 use Rattle.vme_monitor.specs.declared.tracking.TransferPhase.{TransferPhase}
 use Rattle.vme_monitor.specs.declared.tracking.TransferPhase.TheVariants.{Closed, Reading, Writing, Answered}
-use Rattle.vme_monitor.proofs.TrackedTransfers.{IsIn, Enters, Enters-entered}
+use Rattle.vme_monitor.proofs.TrackedTransfers.{IsIn, Enters, Enters-entered, in_transfer-open, in_transfer-closed}
 use Rattle.vme_dtb.specs.HoldingNumbers.{has_risen, writes_of}
 use Rattle.vme_dtb.specs.StabilityRules.{is_changed_data, is_undriven, keeps_data, kept, may_write, changed_data_fault}
 use Rattle.vme_dtb.specs.StabilityRules.{observation_of, stability_rules, undriven_fault, writes_now}
@@ -69,11 +69,6 @@ is_selected-to v l h = data_line-to (is_high (level_at v LWORD)) (is_low (level_
 -- each data line exists
 pub has_line-data : (slots l : ℕ) → 159 ≤ l → l < 191 → has_line slots l ≡ true
 has_line-data slots l h k = grind (arith, nat_tests)
-
--- if a and true is false, so is a and b
-and-false_first : (a b : Bool) → (a && true) ≡ false → (a && b) ≡ false
-and-false_first true b h = absurd (cc)
-and-false_first false b h = refl
 
 -- U4 on a line by equal tests, if the instant is judged and each line that a transfer moves exists
 undriven-by_tests : (j h s k f w g x : Bool) → j ≡ true → f ≡ g → w ≡ x → (s ≡ true → h ≡ true)
@@ -156,30 +151,6 @@ module _ (t : Trace) (stretch : Stretch) (reads : ReadsStrobes t stretch) (n : �
   abbrev new : Levels
   new = levels_at t (suc n)
 
-  -- at an instant that is in no transfer, it is in none with p
-  in_transfer-fewer : (p : ℕ → Bool) → in_transfer t stretch (λ i. true) (suc n) ≡ false
-      → in_transfer t stretch p (suc n) ≡ false
-  unfolding in_transfer
-  in_transfer-fewer p h = fails-any (λ i. transfer_starts t stretch i && lasts t stretch i (suc n) && p i)
-      (stretch.start + 1)
-      (suc n + 1)
-      (λ i a b. and-false_first (transfer_starts t stretch i && lasts t stretch i (suc n)) (p i)
-      (any-fails (λ k. transfer_starts t stretch k && lasts t stretch k (suc n) && true) (stretch.start + 1) (suc n + 1)
-      i h a
-      b))
-
-  -- if both strobes are high at n and at n + 1, no transfer is at n + 1
-  in_transfer-closed : (p : ℕ → Bool) → strobes_high t (suc n - 1) ≡ true → strobes_high t (suc n) ≡ true
-      → in_transfer t stretch p
-      (suc n) ≡ false
-  in_transfer-closed p high_before high_here = in_transfer-fewer p (in_transfer-levels t stretch reads n from before
-      ∙ rw (ap (strobes_high t) (sym (suc-sub-one n)) ∙ high_before, high_here) refl)
-
-  -- while the transfer of i lasts to n + 1, p holds of a transfer there exactly if it holds of i
-  in_transfer-open : (p : ℕ → Bool) (i : ℕ) (w a : Bool) → IsIn t stretch (suc n) i w a
-      → in_transfer t stretch p (suc n) ≡ p i
-  in_transfer-open p i w a o = in_transfer-is t stretch p i (suc n) o.later o.within o.starts o.last
-
   -- in an open transfer the memory and WRITE* say whether it is a write without an answer
   writes_of-direction : strobes_high_in old ≡ false → writes_of m.transfer (is_low (level_at old WRITE))
       ≡ is_writing holds.state
@@ -200,10 +171,12 @@ module _ (t : Trace) (stretch : Stretch) (reads : ReadsStrobes t stretch) (n : �
   -- n + 1 is in a write without an answer before it exactly if the phase is `Writing`
   in_transfer-asked : (e : TransferPhase) → Enters t stretch (suc n) e → in_transfer t stretch is_asked (suc n)
       ≡ is_writing e
-  in_transfer-asked Closed o = in_transfer-closed is_asked o.0 o.1
-  in_transfer-asked Reading o = in_transfer-open is_asked o.0 false false o.1 ∙ rw o.1.direction refl
-  in_transfer-asked Writing o = in_transfer-open is_asked o.0 true false o.1 ∙ rw (o.1.direction, o.1.reply) refl
-  in_transfer-asked Answered o = in_transfer-open is_asked o.0 o.1 true o.2
+  in_transfer-asked Closed o = in_transfer-closed t stretch reads n from before is_asked
+      (ap (strobes_high t) (sym (suc-sub-one n)) ∙ o.0) o.1
+  in_transfer-asked Reading o = in_transfer-open t stretch (suc n) is_asked o.0 false false o.1 ∙ rw o.1.direction refl
+  in_transfer-asked Writing o = in_transfer-open t stretch (suc n) is_asked o.0 true false o.1
+      ∙ rw (o.1.direction, o.1.reply) refl
+  in_transfer-asked Answered o = in_transfer-open t stretch (suc n) is_asked o.0 o.1 true o.2
       ∙ rw (o.2.direction, o.2.reply) (and-false o.1)
 
   -- n + 1 is in a write without an answer before it exactly if the memory and the levels say so
@@ -275,12 +248,13 @@ module _ (t : Trace) (stretch : Stretch) (reads : ReadsStrobes t stretch) (n : �
   in_transfer-held_from_high : (e : TransferPhase) → Enters t stretch (suc n) e → strobes_high t n ≡ true
       → in_transfer t stretch is_held
       (suc n) ≡ false
-  in_transfer-held_from_high Closed o h = in_transfer-closed is_held o.0 o.1
-  in_transfer-held_from_high Reading o h = in_transfer-open is_held o.0 false false o.1
+  in_transfer-held_from_high Closed o h = in_transfer-closed t stretch reads n from before is_held
+      (ap (strobes_high t) (sym (suc-sub-one n)) ∙ o.0) o.1
+  in_transfer-held_from_high Reading o h = in_transfer-open t stretch (suc n) is_held o.0 false false o.1
       ∙ is_held-just_started o.0 false false o.1 h
-  in_transfer-held_from_high Writing o h = in_transfer-open is_held o.0 true false o.1
+  in_transfer-held_from_high Writing o h = in_transfer-open t stretch (suc n) is_held o.0 true false o.1
       ∙ is_held-just_started o.0 true false o.1 h
-  in_transfer-held_from_high Answered o h = in_transfer-open is_held o.0 o.1 true o.2
+  in_transfer-held_from_high Answered o h = in_transfer-open t stretch (suc n) is_held o.0 o.1 true o.2
       ∙ is_held-just_started o.0 o.1 true o.2 h
 
   -- an answer line falls at n + 1 exactly if one falls between the levels
@@ -325,14 +299,14 @@ module _ (t : Trace) (stretch : Stretch) (reads : ReadsStrobes t stretch) (n : �
       → in_transfer t stretch is_held (suc n) ≡ (is_writing e && not (answer_between old new)
       && (not (has_risen m.transfer) && not (strobe_rises_between old new)))
   in_transfer-held_from_low Closed o c low = absurd (cc)
-  in_transfer-held_from_low Reading o c low = in_transfer-open is_held o.0 false false o.1
+  in_transfer-held_from_low Reading o c low = in_transfer-open t stretch (suc n) is_held o.0 false false o.1
       ∙ rw o.1.direction (read (nat_lt o.0 (suc n)) _ _)
     where
       read : (a b c : Bool) → (a && false && b && c) ≡ false
       read true b c = refl
       read false b c = refl
   in_transfer-held_from_low Writing o c low =
-      in_transfer-open is_held o.0 true false o.1
+      in_transfer-open t stretch (suc n) is_held o.0 true false o.1
       ∙ rw (
         o.1.direction,
         nat_lt-earlier o.0 (started_before o.0 true false o.1 low),
@@ -340,7 +314,7 @@ module _ (t : Trace) (stretch : Stretch) (reads : ReadsStrobes t stretch) (n : �
         none_rises-next o.0 true false o.1 low,
       ) refl
   in_transfer-held_from_low Answered o c low =
-      in_transfer-open is_held o.0 o.1 true o.2 ∙ rw (is_answered-next o.0 o.1 true o.2)
+      in_transfer-open t stretch (suc n) is_held o.0 o.1 true o.2 ∙ rw (is_answered-next o.0 o.1 true o.2)
       (over (nat_lt o.0 (suc n)) (is_write t stretch o.0) _)
     where
       over : (a b c : Bool) → (a && b && false && c) ≡ false

@@ -3,30 +3,25 @@
 use Rattle.std.proofs.Common.{◌≡◌, ℕ, suc, ◌+◌, ◌<◌, ◌≤◌, Bool, true, false, ◌||◌, ◌&&◌, not, refl, sym, ◌∙◌, ap, arith}
 use Rattle.std.proofs.Common.{inl, inr, ◌⊎◌, add-one}
 use Rattle.std.specs.Prelude.{nat_lt}
-use Rattle.std.proofs.lemmas.Bool.{le-leb, le-ltb, lt-ltb}
+use Rattle.std.proofs.lemmas.Bool.{le-ltb, lt-ltb}
 use Rattle.vme_trace.specs.Instants.{any}
 use Rattle.vme_trace.specs.LineNumbers.{DTACK, BERR}
 use Rattle.vme_trace.specs.Trace.{Trace}
 use Rattle.vme_trace.specs.Signals.{falls}
 use Rattle.vme_trace.specs.Judged.{Stretch}
-use Rattle.vme_trace.specs.Transfers.{strobes_high, answer_falls, transfer_starts, lasts, is_answered, answers}
+use Rattle.vme_trace.specs.Transfers.{strobes_high, answer_falls, lasts, is_answered, answers}
 use Rattle.vme_trace.specs.Transfers.{in_transfer}
-use Rattle.vme_trace.proofs.Ranges.{any-fails, fails-any, clash, any-next}
-use Rattle.vme_trace.proofs.OpenTransfers.{suc-sub-one, is_judged-holds, ReadsStrobes, in_transfer-is}
-use Rattle.vme_trace.proofs.OpenTransfers.{in_transfer-levels}
+use Rattle.vme_trace.proofs.Ranges.{clash, any-next}
+use Rattle.vme_trace.proofs.OpenTransfers.{suc-sub-one, ReadsStrobes}
 use Rattle.vme_monitor.specs.Tracked.{StaysOpen, IsTransferPhase}
 use Rattle.vme_monitor.specs.Tracking.{is_unanswered, is_within}
 use Rattle.vme_monitor.specs.declared.tracking.TransferPhase.{TransferPhase}
 use Rattle.vme_monitor.specs.declared.tracking.TransferPhase.TheVariants.{Closed, Reading, Writing, Answered}
 use Rattle.vme_monitor.proofs.TrackedTransfers.{IsIn, Enters, Enters-entered}
+use Rattle.vme_monitor.proofs.TrackedTransfers.{IsIn-StaysOpen, in_transfer-closed, in_transfer-open}
 use Rattle.vme_monitor.specs.Tracking.{entered}
 use Rattle.vme_trace.specs.Trace.{levels_at}
 use Rattle.vme_dtb.specs.Machine.{has_answer}
-
--- if a and true is false, so is a and b
-and-false_first : (a b : Bool) → (a && true) ≡ false → (a && b) ≡ false
-and-false_first true b h = absurd (cc)
-and-false_first false b h = refl
 
 -- an instant up to n + 1 is n + 1, or up to n
 last_or_before : (i n : ℕ) → i ≤ suc n → (i ≡ suc n) ⊎ (i ≤ n)
@@ -43,33 +38,13 @@ module _ (t : Trace) (stretch : Stretch) (reads : ReadsStrobes t stretch) (n : �
     (before : suc n < stretch.end) where
   -- a transfer that stays open after n lasts to n + 1
   lasts-StaysOpen : (i : ℕ) (w a : Bool) → StaysOpen t stretch n i w a → lasts t stretch i (suc n) ≡ true
-  unfolding lasts
-  lasts-StaysOpen i w a o =
-      rw (
-        le-leb i (suc n) (omega (arith, o.within)),
-        is_judged-holds stretch (suc n) (omega arith) before,
-        fails-any (strobes_high t) (i + 1) (suc n) (λ r x y. o.still r (omega arith) (omega arith)),
-      ) refl
+  lasts-StaysOpen i w a o = (IsIn-StaysOpen t stretch n i w a before from o).last
 
   -- while the transfer of i stays open after n, p holds of a transfer at n + 1 exactly if it holds of i
   in_transfer-StaysOpen : (p : ℕ → Bool) (i : ℕ) (w a : Bool) → StaysOpen t stretch n i w a
       → in_transfer t stretch p (suc n) ≡ p i
-  in_transfer-StaysOpen p i w a o = in_transfer-is t stretch p i (suc n) o.later (omega (arith, o.within)) o.starts
-      (lasts-StaysOpen i w a o)
-
-  -- if both strobes are high at n and at n + 1, no transfer is at n + 1
-  in_transfer-closed : (p : ℕ → Bool) → strobes_high t n ≡ true → strobes_high t (suc n) ≡ true
-      → in_transfer t stretch p (suc n)
-      ≡ false
-  unfolding in_transfer
-  in_transfer-closed p high_before high_here =
-      let none : in_transfer t stretch (λ i. true) (suc n) ≡ false = in_transfer-levels t stretch reads n from before
-      ∙ rw (high_before, high_here) refl in
-      fails-any (λ i. transfer_starts t stretch i && lasts t stretch i (suc n) && p i) (stretch.start + 1) (suc n + 1)
-      (λ i a b. and-false_first (transfer_starts t stretch i && lasts t stretch i (suc n)) (p i)
-      (any-fails (λ k. transfer_starts t stretch k && lasts t stretch k (suc n) && true) (stretch.start + 1) (suc n + 1)
-      i none
-      a b))
+  in_transfer-StaysOpen p i w a o =
+      in_transfer-open t stretch (suc n) p i w a (IsIn-StaysOpen t stretch n i w a before from o)
 
   -- if both strobes are high at n, a transfer in which n + 1 is starts there
   IsIn-starts_now : (i : ℕ) (w a : Bool) → IsIn t stretch (suc n) i w a → strobes_high t n ≡ true → i ≡ suc n
@@ -79,22 +54,18 @@ module _ (t : Trace) (stretch : Stretch) (reads : ReadsStrobes t stretch) (n : �
         | inr earlier ↦ absurd (clash (strobes_high t n) high_before (o.still n earlier (omega arith)))
       ]
 
-  -- while the transfer of i lasts to n + 1, p holds of a transfer there exactly if it holds of i
-  in_transfer-open : (p : ℕ → Bool) (i : ℕ) (w a : Bool) → IsIn t stretch (suc n) i w a
-      → in_transfer t stretch p (suc n) ≡ p i
-  in_transfer-open p i w a o = in_transfer-is t stretch p i (suc n) o.later o.within o.starts o.last
-
   -- if both strobes are high at n, and p fails on n + 1, n + 1 is in no transfer with p
   in_transfer-Enters_closed : (p : ℕ → Bool) (e : TransferPhase) → Enters t stretch (suc n) e → strobes_high t n ≡ true
       → p (suc n)
       ≡ false
       → in_transfer t stretch p (suc n) ≡ false
-  in_transfer-Enters_closed p Closed o high_before fails = in_transfer-closed p high_before o.1
-  in_transfer-Enters_closed p Reading o high_before fails = in_transfer-open p o.0 false false o.1
+  in_transfer-Enters_closed p Closed o high_before fails =
+      in_transfer-closed t stretch reads n from before p high_before o.1
+  in_transfer-Enters_closed p Reading o high_before fails = in_transfer-open t stretch (suc n) p o.0 false false o.1
       ∙ ap p (IsIn-starts_now o.0 false false o.1 high_before) ∙ fails
-  in_transfer-Enters_closed p Writing o high_before fails = in_transfer-open p o.0 true false o.1
+  in_transfer-Enters_closed p Writing o high_before fails = in_transfer-open t stretch (suc n) p o.0 true false o.1
       ∙ ap p (IsIn-starts_now o.0 true false o.1 high_before) ∙ fails
-  in_transfer-Enters_closed p Answered o high_before fails = in_transfer-open p o.0 o.1 true o.2
+  in_transfer-Enters_closed p Answered o high_before fails = in_transfer-open t stretch (suc n) p o.0 o.1 true o.2
       ∙ ap p (IsIn-starts_now o.0 o.1 true o.2 high_before)
       ∙ fails
 
@@ -182,13 +153,14 @@ module _ (t : Trace) (stretch : Stretch) (reads : ReadsStrobes t stretch) (n : �
   in_transfer-Enters_doubled : (e : TransferPhase) → Enters t stretch (suc n) e
       → in_transfer t stretch answered_twice (suc n)
       ≡ (has_answer e || (is_unanswered e && (falls t DTACK (suc n) && falls t BERR (suc n))))
-  in_transfer-Enters_doubled Closed o = in_transfer-closed answered_twice (ap (strobes_high t) (sym (suc-sub-one n))
-      ∙ o.0) o.1
-  in_transfer-Enters_doubled Reading o = in_transfer-open answered_twice o.0 false false o.1
+  in_transfer-Enters_doubled Closed o = in_transfer-closed t stretch reads n from before answered_twice
+      (ap (strobes_high t) (sym (suc-sub-one n)) ∙ o.0) o.1
+  in_transfer-Enters_doubled Reading o = in_transfer-open t stretch (suc n) answered_twice o.0 false false o.1
       ∙ answered_twice-unanswered o.0 false o.1
-  in_transfer-Enters_doubled Writing o = in_transfer-open answered_twice o.0 true false o.1
+  in_transfer-Enters_doubled Writing o = in_transfer-open t stretch (suc n) answered_twice o.0 true false o.1
       ∙ answered_twice-unanswered o.0 true o.1
-  in_transfer-Enters_doubled Answered o = in_transfer-open answered_twice o.0 o.1 true o.2 ∙ rw o.2.reply refl
+  in_transfer-Enters_doubled Answered o = in_transfer-open t stretch (suc n) answered_twice o.0 o.1 true o.2
+      ∙ rw o.2.reply refl
 
   -- whether n + 1 is in a transfer that is answered again there, or by both lines
   pub in_transfer-answered_twice : (m : TransferPhase) → IsTransferPhase t stretch n m → let e =
