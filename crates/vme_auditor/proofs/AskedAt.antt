@@ -50,6 +50,7 @@ use Rattle.vme_dtb.proofs.HandshakeBreaks.{is_answer-unanswered}
 use Rattle.vme_dtb.proofs.HandshakeMeaning.{Holds}
 use Rattle.vme_dtb.proofs.OpenState.{in_transfer-is_within}
 use Rattle.vme_dtb.proofs.StepFacts.{falls-between, is_judged-next, new, old, rises-between, transfer_starts-between}
+use Rattle.vme_dtb.proofs.StepFacts.{and-same, or-same}
 use Rattle.vme_audit.specs.AskedRules.{any_grant_falls, answer_rises, answered_again_in_class}
 use Rattle.vme_audit.specs.AskedRules.{answered_in_class, event_happens, happens, within_transfer}
 use Rattle.vme_audit.specs.AskedRules.{write_starts}
@@ -69,14 +70,6 @@ use Rattle.vme_auditor.proofs.EventFields.{strobe_rise-at_step, tenure-at_step}
 use Rattle.vme_auditor.proofs.EventFields.{transfer-at_step, write-at_step}
 use Rattle.vme_auditor.proofs.NetEvents.{any-arbiter_grant, any-falls_between, any-is_grant, any-rises_between}
 use Rattle.vme_auditor.proofs.Truth.{or_swapped}
-
--- `&&` of equal truth values
-and-equal_parts : (a b c d : Bool) → a ≡ c → b ≡ d → (a && b) ≡ (c && d)
-and-equal_parts a b c d e f = rw (e, f) refl
-
--- `||` of equal truth values
-or-equal_parts : (a b c d : Bool) → a ≡ c → b ≡ d → (a || b) ≡ (c || d)
-or-equal_parts a b c d e f = rw (e, f) refl
 
 -- an option that has a value under the condition `b` has one exactly if `b` holds
 is_some-cond : {A : Type 0} (b : Bool) (a : A) → is_some (cond b (Some a) None) ≡ b
@@ -238,7 +231,7 @@ module _ (t : Trace) (ok : malformed_step t ≡ None) (few : t.opening.slots ≤
       ≡ (strobe_rises t (suc n) && within_transfer t stretch (suc n))
   strobe_rise_event =
       and_comm (is_within m.transfer) (strobe_rises_between v w)
-      ∙ and-equal_parts _ _ _ _ (or-equal_parts _ _ _ _ (sym (rises-between t n DS0)) (sym (rises-between t n DS1)))
+      ∙ and-same _ _ _ _ (or-same _ _ _ _ (sym (rises-between t n DS0)) (sym (rises-between t n DS1)))
       within_event
 
   -- a strobe falls in the step, within a transfer, exactly if one does at n + 1
@@ -246,16 +239,16 @@ module _ (t : Trace) (ok : malformed_step t ≡ None) (few : t.opening.slots ≤
       ≡ (strobe_falls t (suc n) && within_transfer t stretch (suc n))
   strobe_fall_event =
       and_comm (is_within m.transfer) (strobe_falls_between v w)
-      ∙ and-equal_parts _ _ _ _ (or-equal_parts _ _ _ _ (sym (falls-between t n DS0)) (sym (falls-between t n DS1)))
+      ∙ and-same _ _ _ _ (or-same _ _ _ _ (sym (falls-between t n DS0)) (sym (falls-between t n DS1)))
       within_event
 
   -- an answer line falls in the step exactly if one falls at n + 1
   answer_fall_event : answer_between v w ≡ answer_falls t (suc n)
-  answer_fall_event = or-equal_parts _ _ _ _ (sym (falls-between t n DTACK)) (sym (falls-between t n BERR))
+  answer_fall_event = or-same _ _ _ _ (sym (falls-between t n DTACK)) (sym (falls-between t n BERR))
 
   -- an answer line rises in the step exactly if one rises at n + 1
   answer_rise_event : (rises_between v w DTACK || rises_between v w BERR) ≡ answer_rises t (suc n)
-  answer_rise_event = or-equal_parts _ _ _ _ (sym (rises-between t n DTACK)) (sym (rises-between t n BERR))
+  answer_rise_event = or-same _ _ _ _ (sym (rises-between t n DTACK)) (sym (rises-between t n BERR))
 
   -- the step shows an answer exactly if a transfer is answered at n + 1
   answer_event : is_some shown.answer ≡ is_answer t stretch (suc n)
@@ -272,7 +265,7 @@ module _ (t : Trace) (ok : malformed_step t ≡ None) (few : t.opening.slots ≤
   interrupt_event : (is_some shown.answer && is_interrupt_entered m.cycle shown.cycle)
       ≡ answered_in_class t stretch is_interrupt (suc n)
   interrupt_event =
-      and-equal_parts _ _ _ _ answer_event
+      and-same _ _ _ _ answer_event
       (is_interrupt_entered-acknowledge m.cycle shown.cycle ∙ ap is_interrupt_acknowledge (sym cycle_before-entered)
       ∙ sym (in_interrupt_acknowledge t stretch (suc n)))
 
@@ -284,7 +277,7 @@ module _ (t : Trace) (ok : malformed_step t ≡ None) (few : t.opening.slots ≤
       ≡ is (cycle_before t stretch (suc n))
       → answers_again is m.cycle shown.cycle shown.answer ≡ answered_again_in_class t stretch chosen (suc n)
   again_event is chosen fresh answered_before =
-      and-equal_parts _ _ _ _ answer_event
+      and-same _ _ _ _ answer_event
       (cycle_entered-answered is fresh m.cycle shown.cycle ∙ ap is (sym cycle_before-entered) ∙ sym answered_before)
 
   -- BBSY falls in the step exactly if a tenure starts at n + 1
@@ -380,7 +373,7 @@ module _ (t : Trace) (ok : malformed_step t ≡ None) (few : t.opening.slots ≤
     has_happened-after_step event.arbiter_fall =
         or-equal_right _ _ _ _ (arbiter_fall-at_step e m v w cs shown) (arbiter_event e)
     has_happened-after_step event.grant_fall =
-        or-equal_parts _ _ _ _ (arbiter_fall-at_step e m v w cs shown) (slot_grant_fall-at_step e m v w cs shown)
+        or-same _ _ _ _ (arbiter_fall-at_step e m v w cs shown) (slot_grant_fall-at_step e m v w cs shown)
         ∙ or_swapped e.arbiter_fall (any_falls e m v w cs shown is_arbiter_grant) e.slot_grant_fall
         (any_falls e m v w cs shown is_slot_grant)
         ∙ ap (λ x. (e.arbiter_fall || e.slot_grant_fall) || x) (grant_event e)

@@ -18,7 +18,7 @@ use Rattle.vme_trace.specs.declared.level.Level.{Level}
 use Rattle.vme_trace.specs.declared.level.Level.TheVariants.{Low, High, Unknown}
 use Rattle.vme_trace.proofs.Changing.{high_not_low}
 use Rattle.vme_trace.proofs.Ranges.{any-fails, clash, fails-any, greatest-step, greatest-below, any-suc}
-use Rattle.vme_trace.proofs.OpenTransfers.{is_judged-holds, suc-sub-one}
+use Rattle.vme_trace.proofs.OpenTransfers.{is_judged-holds, suc-sub-one, noted_while_low-same}
 use Rattle.vme_monitor.specs.Tracked.{IsTransferPhase}
 use Rattle.vme_monitor.specs.Tracking.{answered_by, entered, is_unanswered}
 use Rattle.vme_monitor.specs.declared.tracking.TransferPhase.{TransferPhase}
@@ -245,19 +245,6 @@ module _ (t : Trace) (stretch : Stretch) where
           either false e = refl
       tracked-unchanged p q false l h a closed still none = let off : h ≡ false = still in rw (off, none) refl
 
-      -- where the address strobe doesn't rise and DTACK doesn't fall, whether DTACK answered a transfer of the cycle
-      -- stays
-      answered_by_dtack-unchanged : (x y : Level) (a u : Bool) → is_known y ≡ true → (is_low x ≡ false → a ≡ false)
-          → (is_low x && is_high y) ≡ false → (is_low y && (a || (u && false))) ≡ a
-      answered_by_dtack-unchanged x Unknown a u k idle r = absurd (cc)
-      answered_by_dtack-unchanged x High false u k idle r = refl
-      answered_by_dtack-unchanged x Low false true k idle r = refl
-      answered_by_dtack-unchanged x Low false false k idle r = refl
-      answered_by_dtack-unchanged x Low true u k idle r = refl
-      answered_by_dtack-unchanged Low High true u k idle r = absurd (cc)
-      answered_by_dtack-unchanged High High true u k idle r = sym (idle refl)
-      answered_by_dtack-unchanged Unknown High true u k idle r = sym (idle refl)
-
       -- if `changes_memory` is false, the memory stays
       pub memory_after-unchanged : (m : AcknowledgeMemory) → Holds n m → changes_memory old new ≡ false
           → memory_after m old new
@@ -274,7 +261,7 @@ module _ (t : Trace) (stretch : Stretch) where
                 (transfer-closed m.transfer h.transfer)
                 answer.0 answer.1,
             done.0,
-            answered_by_dtack-unchanged (level_at old AS) (level_at new AS) m.answered_by_dtack
+            noted_while_low-same (level_at old AS) (level_at new AS) m.answered_by_dtack
                 (is_unanswered (entered m.transfer old new)) (facts.known (suc n) AS (omega arith) before (lit< tt)
                 refl)
                 h.idle address.1,

@@ -23,6 +23,7 @@ use Rattle.vme_trace.proofs.Changing.{bus_line_exists}
 use Rattle.vme_dtb.specs.StabilityRules.{lacks, unknown_address, unknown_direction}
 use Rattle.vme_dtb.proofs.StabilityMeaning.{is_judged-next, cycle_starts-between, transfer_starts-between}
 use Rattle.vme_dtb.proofs.Needed.{needs_of-below}
+use Rattle.vme_dtb.proofs.StepFacts.{and-false_test}
 
 -- the least line with p under a condition b is that with p if b holds, else none
 pub least-condition : (b : Bool) (p : ℕ → Bool) → least (λ l. b && p l) 0 line_count
@@ -60,10 +61,6 @@ unknown-by_tests j h c f d k jt cf hd = rw (jt, cf) (by_need d h f hd)
     by_need false false true hd = refl
     by_need false false false hd = refl
 
--- U3 isn't broken where the line isn't WRITE*
-direction-off_line : (j h e a b : Bool) → e ≡ false → (j && h && (e && a && b)) ≡ false
-direction-off_line j h e a b x = grind (arith, nat_tests)
-
 -- U3 on WRITE*, if the instant is judged
 direction-on_line : (j a b : Bool) → j ≡ true → (j && true && (true && a && b)) ≡ (a && b)
 direction-on_line j a b x = rw x refl
@@ -95,7 +92,7 @@ module _ (t : Trace) (stretch : Stretch) (reads : ReadsStrobes t stretch) (n : �
   -- U3 is broken on no line but WRITE*
   breaks-U3_elsewhere : (l : ℕ) → (l == WRITE) ≡ false → breaks t stretch U3 (suc n) l ≡ false
   unfolding breaks is_broken
-  breaks-U3_elsewhere l h = direction-off_line (is_judged stretch (suc n)) (has_line t.opening.slots l) (l == WRITE)
+  breaks-U3_elsewhere l h = and-false_test (is_judged stretch (suc n)) (has_line t.opening.slots l) (l == WRITE)
       (transfer_starts t stretch (suc n)) (not (known t l (suc n))) h
 
   -- U3 is broken on WRITE* exactly if a transfer starts and WRITE* is unknown

@@ -36,7 +36,7 @@ use Rattle.vme_dtb.proofs.CycleMemory.{in_changed_direction}
 use Rattle.vme_dtb.proofs.HandshakeBreaks.{is_answer-unanswered}
 use Rattle.vme_dtb.proofs.HandshakeMeaning.{Holds}
 use Rattle.vme_dtb.proofs.StepFacts.{old, new, first_of-answer_fall, falls-between, is_judged-next, least-answer_rule}
-use Rattle.vme_dtb.proofs.StepFacts.{rule_break-fault_if}
+use Rattle.vme_dtb.proofs.StepFacts.{rule_break-fault_if, and-same}
 use Rattle.vme_dtb.proofs.StepFacts.{cond-same, first_of-is_some}
 
 -- a choice between none and none is none
@@ -120,16 +120,13 @@ module _ (t : Trace) (stretch : Stretch) (reads : ReadsStrobes t stretch) (n : �
   rule_break-answer_rule r x f form e =
       rule_break-fault_if t n stretch from before r (f here (is_writing within)) (answer_in within seen)
       (least-answer_rule t n stretch from before r (λ l. falls t l (suc n)) (is_answer t stretch (suc n) && x) form
-      ∙ cond-same _ _ _ _ (same_and (is_answer t stretch (suc n)) x
+      ∙ cond-same _ _ _ _ (and-same (is_answer t stretch (suc n)) x
       _ _ (is_answer-unanswered t stretch reads n from before m holds)
       (e ∙ same_test (cycle_before t stretch (suc n)) (answers_write t stretch (suc n)) cycle_before-here
       answers_write-is_writing))
       (first_of-answer_fall t n)
       ∙ cond-by_direction (f here) (is_unanswered within) (is_writing within) seen.answer_fall)
     where
-      same_and : (a b c d : Bool) → a ≡ c → b ≡ d → (a && b) ≡ (c && d)
-      same_and a b c d e f = rw (e, f) refl
-
       same_test : (c : CyclePhase) (w : Bool) → c ≡ here → w ≡ (is_writing within && is_some seen.answer_fall) → f c w
           ≡ f here (is_writing within && is_some seen.answer_fall)
       same_test c w e g = rw (e, g) refl
@@ -215,14 +212,11 @@ module _ (t : Trace) (stretch : Stretch) (reads : ReadsStrobes t stretch) (n : �
       (least-answer_rule t n stretch from before I4 (λ l. falls t l (suc n))
       (answers_write t stretch (suc n) && interrupt_acknowledge)
       breaks-I4
-      ∙ cond-same _ _ _ _ (same_and (answers_write t stretch (suc n)) interrupt_acknowledge (is_writing within
+      ∙ cond-same _ _ _ _ (and-same (answers_write t stretch (suc n)) interrupt_acknowledge (is_writing within
       && is_some seen.answer_fall) (is_interrupt_acknowledge here) answers_write-is_writing
       (in_interrupt_acknowledge t stretch (suc n)
       ∙ ap is_interrupt_acknowledge cycle_before-here)) (first_of-answer_fall t n)
       ∙ cond-by_write within (is_interrupt_acknowledge here) seen.answer_fall)
-    where
-      same_and : (a b c d : Bool) → a ≡ c → b ≡ d → (a && b) ≡ (c && d)
-      same_and a b c d e f = rw (e, f) refl
 
   -- each fault is the break of its rule
   pub cycle_faults-are-breaks : AreBreaksOf (break_of_fault (suc n) (time_at t (suc n))) (rule_break t stretch (suc n))

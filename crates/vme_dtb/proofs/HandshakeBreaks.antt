@@ -31,7 +31,7 @@ use Rattle.vme_dtb.proofs.AnswerRises.{may_rise_at, rises-held}
 use Rattle.vme_dtb.proofs.HandshakeMeaning.{Holds}
 use Rattle.vme_dtb.proofs.OpenState.{in_transfer-answered_twice, in_transfer-has_answer, in_transfer-is_unanswered}
 use Rattle.vme_dtb.proofs.StepFacts.{old, new, answer_falls-between, first_of-answer_fall, falls-between, least-AS_rule}
-use Rattle.vme_dtb.proofs.StepFacts.{least-answer_rule, least-strobe_rule, rises-between, rule_break-fault_if}
+use Rattle.vme_dtb.proofs.StepFacts.{least-answer_rule, least-strobe_rule, rises-between, rule_break-fault_if, and-same}
 use Rattle.vme_dtb.proofs.StepFacts.{cond-same, first_of-same, first_of-is_some}
 use Rattle.vme_dtb.proofs.StepFacts.{transfer_starts-between, first_of-strobe_fall, first_of-strobe_rise}
 use Rattle.vme_dtb.proofs.StepFacts.{strobe_rises-between, unaddressed-between}
@@ -279,13 +279,10 @@ module _ (t : Trace) (stretch : Stretch) (reads : ReadsStrobes t stretch) (n : �
       rule_break-fault_if t n stretch from before H8 seen.unaddressed (answer_in within seen)
       (least-answer_rule t n stretch from before H8 (λ l. falls t l (suc n)) (is_answer t stretch (suc n)
       && not (near (low t AS) (suc n))) breaks-H8
-      ∙ cond-same _ _ _ _ (same_and (is_answer t stretch (suc n)) (not (near (low t AS) (suc n))) (is_unanswered within
+      ∙ cond-same _ _ _ _ (and-same (is_answer t stretch (suc n)) (not (near (low t AS) (suc n))) (is_unanswered within
       && is_some seen.answer_fall) seen.unaddressed is_answer-unanswered (unaddressed-between t n))
       (first_of-answer_fall t n)
       ∙ cond-answer (is_unanswered within) seen.unaddressed seen.answer_fall)
-    where
-      same_and : (a b c d : Bool) → a ≡ c → b ≡ d → (a && b) ≡ (c && d)
-      same_and a b c d e f = rw (e, f) refl
 
   -- each fault is the break of its rule
   pub handshake_faults-are-breaks : AreBreaksOf (break_of_fault (suc n) (time_at t (suc n)))

@@ -1,8 +1,7 @@
 -- The line that breaks S2, i.e. WRITE* where it changes in a transfer before a strobe rises, is that of the machine's
 -- fault.
-use Rattle.std.proofs.Common.{◌≡◌, ℕ, suc, ◌+◌, ◌<◌, ◌≤◌, Bool, true, false, ◌&&◌, refl, sym, ◌∙◌, arith}
+use Rattle.std.proofs.Common.{◌≡◌, ℕ, suc, ◌+◌, ◌<◌, ◌≤◌, Bool, true, false, ◌&&◌, refl, sym, ◌∙◌}
 use Rattle.std.specs.Prelude.{◌==◌, List}
-use Rattle.std.proofs.lemmas.Bool.Decides.{nat_tests}
 use Rattle.std.proofs.Math.Bool.{and_comm}
 use Rattle.vme_trace.specs.Instants.{any, least}
 use Rattle.vme_trace.specs.LineNumbers.{line_count, WRITE, has_line}
@@ -18,10 +17,7 @@ use Rattle.vme_dtb.specs.StabilityRules.{direction_turned, keeps_direction, obse
 use Rattle.vme_dtb.specs.declared.holding.Holding.{Holding}
 use Rattle.vme_dtb.proofs.AskedLines.{least-WRITE}
 use Rattle.vme_dtb.proofs.StabilityMeaning.{Holds, holds_direction, is_judged-next, keeps_direction-any}
-
--- S2 isn't broken where the line isn't WRITE*
-direction-off_line : (j h e a b : Bool) → e ≡ false → (j && h && (e && a && b)) ≡ false
-direction-off_line j h e a b x = grind (arith, nat_tests)
+use Rattle.vme_dtb.proofs.StepFacts.{and-false_test}
 
 -- S2 on WRITE* by equal tests, if the instant is judged
 direction-on_line : (j a b c d : Bool) → j ≡ true → a ≡ d → b ≡ c → (j && true && (true && a && b)) ≡ (c && d)
@@ -40,7 +36,7 @@ module _ (t : Trace) (stretch : Stretch) (reads : ReadsStrobes t stretch) (n : �
   -- S2 is broken on no line but WRITE*
   breaks-S2_elsewhere : (l : ℕ) → (l == WRITE) ≡ false → breaks t stretch S2 (suc n) l ≡ false
   unfolding breaks is_broken
-  breaks-S2_elsewhere l h = direction-off_line (is_judged stretch (suc n)) (has_line t.opening.slots l) (l == WRITE)
+  breaks-S2_elsewhere l h = and-false_test (is_judged stretch (suc n)) (has_line t.opening.slots l) (l == WRITE)
       (has_edge t l (suc n))
       _ h
 

@@ -28,7 +28,7 @@ and-true_tests : (j h a e c : Bool) → j ≡ true → h ≡ true → a ≡ true
 and-true_tests j h a e c x y z = rw (x, y, z) refl
 
 -- a conjunction in which a is false is false
-and-false_test : (j h a e c : Bool) → a ≡ false → (j && h && (a && e && c)) ≡ false
+pub and-false_test : (j h a e c : Bool) → a ≡ false → (j && h && (a && e && c)) ≡ false
 and-false_test j h a e c x = rw x (and-false (j && h))
 
 -- the first of x if a, and y if b, both under the condition c, is the first of them if c
@@ -63,6 +63,14 @@ first_of-same a b c d x y e f = rw (e, f) refl
 -- equal options under equal tests are equal
 pub cond-same : (c d : Bool) (o q : Option ℕ) → c ≡ d → o ≡ q → cond c o None ≡ cond d q None
 cond-same c d o q e f = rw (e, f) refl
+
+-- `&&` of equal truth values
+pub and-same : (a b c d : Bool) → a ≡ c → b ≡ d → (a && b) ≡ (c && d)
+and-same a b c d e f = rw (e, f) refl
+
+-- `||` of equal truth values
+pub or-same : (a b c d : Bool) → a ≡ c → b ≡ d → (a || b) ≡ (c || d)
+or-same a b c d e f = rw (e, f) refl
 
 -- if p fails on all lines but AS*, the least line with p is AS*, if p holds there, and else there is none
 least_address : (p : ℕ → Bool) → ((l : ℕ) → (l == AS) ≡ false → p l ≡ false) → least p 0 line_count

@@ -1,5 +1,5 @@
 -- The search for the least unknown data line that a transfer moves: what is known after each line, and at its end.
-use Rattle.std.proofs.Common.{◌≡◌, ℕ, ◌+◌, ◌<◌, ◌≤◌, Bool, true, false, ◌&&◌, not, refl, ◌∙◌, arith, inl, inr, ◌⊎◌}
+use Rattle.std.proofs.Common.{◌≡◌, ℕ, ◌+◌, ◌<◌, ◌≤◌, true, false, not, refl, ◌∙◌, arith, inl, inr, ◌⊎◌}
 use Rattle.std.specs.Prelude.{None, Some, nat_le}
 use Rattle.std.proofs.Math.Bool.{and-false}
 use Rattle.std.proofs.lemmas.Bool.{cases_lt}
@@ -11,12 +11,7 @@ use Rattle.vme_trace.proofs.Counting.{least-outside}
 use Rattle.vme_trace.proofs.Ranges.{any-fails, any-step, fails-any, least-is, least-none}
 use Rattle.vme_dtb.specs.StabilityRules.{is_undriven}
 use Rattle.vme_dtb.proofs.HeldData.{is_selected-from, is_selected-to}
-use Rattle.vme_dtb.proofs.UnknownNeeds.{and-not_parts}
-
--- if a can't be true, a and b is false
-and-false_first : (a b : Bool) → (a ≡ true → ⊥) → (a && b) ≡ false
-and-false_first true b h = absurd (h refl)
-and-false_first false b h = refl
+use Rattle.vme_dtb.proofs.UnknownNeeds.{and-not_parts, and-false_first}
 
 module _ (v : Levels) where
   -- no line before the data lines is undriven

@@ -14,7 +14,7 @@ use Rattle.vme_dtb.specs.StabilityRules.{lacks, unknown_need}
 use Rattle.vme_dtb.proofs.Needed.{needs_of-above, needs_of-below}
 
 -- if a can't be true, a and b is false
-and-false_first : (a b : Bool) → (a ≡ true → ⊥) → (a && b) ≡ false
+pub and-false_first : (a b : Bool) → (a ≡ true → ⊥) → (a && b) ≡ false
 and-false_first true b h = absurd (h refl)
 and-false_first false b h = refl
 

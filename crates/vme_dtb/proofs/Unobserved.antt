@@ -6,14 +6,13 @@ use Rattle.std.specs.Option.{is_some, option_or}
 use Rattle.std.proofs.lemmas.Bool.{or_parts}
 use Rattle.vme_trace.specs.Edges.{answer_between, rises_between, strobe_low_in, strobe_rises_between, strobes_high_in}
 use Rattle.vme_trace.specs.LineNumbers.{AS, DS0, DS1, WRITE}
-use Rattle.vme_trace.specs.Levels.{Levels, level_at, is_low, is_high, is_known}
+use Rattle.vme_trace.specs.Levels.{Levels, level_at, is_low, is_known}
 use Rattle.vme_trace.specs.Trace.{Trace, levels_at}
 use Rattle.vme_trace.specs.Judged.{Stretch}
-use Rattle.vme_trace.specs.declared.level.Level.{Level}
-use Rattle.vme_trace.specs.declared.level.Level.TheVariants.{Low, High, Unknown}
 use Rattle.vme_trace.specs.declared.rule.Rule.TheVariants.{S1, S2}
 use Rattle.vme_trace.specs.declared.step.Change.{Change}
 use Rattle.vme_trace.proofs.Ranges.{clash}
+use Rattle.vme_trace.proofs.OpenTransfers.{noted_while_low-same}
 use Rattle.vme_monitor.specs.Run.{quiet}
 use Rattle.vme_monitor.specs.declared.tracking.TransferPhase.{TransferPhase}
 use Rattle.vme_monitor.specs.declared.tracking.TransferPhase.TheVariants.{Closed, Reading, Writing, Answered}
@@ -26,18 +25,6 @@ use Rattle.vme_dtb.specs.declared.holding.Holding.{Holding}
 use Rattle.vme_dtb.specs.HoldingNumbers.{has_risen, was_answered}
 use Rattle.vme_dtb.proofs.StabilityMeaning.{Holds, strobes_high_in-before, strobes_high_in-is_closed}
 use Rattle.vme_dtb.proofs.Progressing.{is_answered_state, is_closed, passed-parts}
-
--- whether the cycle has an answer stays, if AS* doesn't rise and no answer comes
-cycle_answered-same : (x y : Level) (a u : Bool) → is_known y ≡ true → (is_low x ≡ false → a ≡ false)
-    → (is_low x && is_high y) ≡ false → (is_low y && (a || (u && false))) ≡ a
-cycle_answered-same x Unknown a u k idle r = absurd (cc)
-cycle_answered-same x High false u k idle r = refl
-cycle_answered-same x Low false true k idle r = refl
-cycle_answered-same x Low false false k idle r = refl
-cycle_answered-same x Low true u k idle r = refl
-cycle_answered-same Low High true u k idle r = absurd (cc)
-cycle_answered-same High High true u k idle r = sym (idle refl)
-cycle_answered-same Unknown High true u k idle r = sym (idle refl)
 
 -- what has happened in the transfer stays, if nothing had happened where both strobes are high
 transfer_part-same : (b a : Bool) → (b ≡ true → a ≡ false) → (not b && (a || false)) ≡ a
@@ -57,7 +44,7 @@ stepped-same v w m answer strobe address closed still idle known =
       transfer_part-same (strobes_high_in w) (was_answered m.transfer) closed,
       transfer_part-same (strobes_high_in w) (has_risen m.transfer) still,
       passed-parts m.transfer (is_low (level_at v WRITE)),
-      cycle_answered-same (level_at v AS) (level_at w AS) m.cycle_answered (not (was_answered m.transfer)
+      noted_while_low-same (level_at v AS) (level_at w AS) m.cycle_answered (not (was_answered m.transfer)
           && (not (strobes_high_in v) || strobe_low_in w)) known idle address,
     )
     refl)

@@ -47,6 +47,10 @@ eq-fails_above i j h = grind (arith, nat_tests)
 abbrev pub pieces : (ℕ → StepMarks) → ℕ → List Mark
 pieces shown j = map (mark_at j) (kinds_of (shown j))
 
+-- three tests hold together, if each holds
+pub and-of_three_tests : (a b c : Bool) → a ≡ true → b ≡ true → c ≡ true → (a && b && c) ≡ true
+and-of_three_tests a b c e f g = rw (e, f, g) refl
+
 -- what is shown has no reset
 module _ (shown : ℕ → StepMarks) (unreset : (j : ℕ) → (shown j).reset ≡ false) where
   -- the marks of an instant before xs and ys are those before xs, and then ys
@@ -97,10 +101,6 @@ module _ (t : Trace) (stretch : Stretch) where
   pieces-none_early j early = ap (λ k. map (mark_at j) (kinds_of k))
       (shown_at-unjudged t stretch j (is_judged-early stretch j (omega arith)))
       ∙ rw (eq-fails_below j stretch.start early) refl
-
-  -- three tests hold together, if each holds
-  and-of_three_tests : (a b c : Bool) → a ≡ true → b ≡ true → c ≡ true → (a && b && c) ≡ true
-  and-of_three_tests a b c e f g = rw (e, f, g) refl
 
   -- at any instant before the end but the opening, the marks are those of what is shown
   marks_on-shown : (j : ℕ) → 0 < j → j < stretch.end → marks_on stretch (shown_at t stretch) j
