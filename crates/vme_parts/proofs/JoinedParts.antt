@@ -3,19 +3,20 @@ use Rattle.std.proofs.Common.{inl, inr, ◌≡◌, ℕ, zero, suc, ◌<◌, ◌^
 use Rattle.std.proofs.Common.{get_or, sum_by}
 use Rattle.std.proofs.Common.{refl, ap, subst, sym, ◌∙◌, arith, Option, None, Some}
 use Rattle.std.specs.Prelude.{◌⊎◌, All, Contains, IsPermutation}
-use Rattle.std.proofs.lemmas.List.{flat_map_more, map_push}
-use Rattle.std.proofs.lemmas.List.Elements.{All-append, All-cons, All-contains, All-head, All-nil, All-same, All-tail}
-use Rattle.std.proofs.lemmas.List.Elements.{All-weaker, Contains-append_cases, Contains-append_left}
+use Rattle.std.proofs.lemmas.List.{flat_map_more, length-map, map_push}
+use Rattle.std.proofs.lemmas.List.Elements.{All-append, All-cons, All-contains, All-head, All-map, All-nil, All-same}
+use Rattle.std.proofs.lemmas.List.Elements.{All-tail, All-weaker, Contains-append_cases, Contains-append_left}
 use Rattle.std.proofs.lemmas.List.Elements.{Contains-append_right, Contains-get_or}
-use Rattle.std.proofs.lemmas.List.Sorted.{All-permutation, Contains-permutation, IsPermutation-sym}
+use Rattle.std.proofs.lemmas.List.Sorted.{All-permutation, Contains-permutation, IsPermutation-map, IsPermutation-sym}
 use Rattle.std.proofs.lemmas.List.Sorted.{sum_by-IsPermutation}
 use Rattle.vme_trace.specs.declared.block.Block.{Block}
 use Rattle.vme_part_format.specs.Bounds.{FitSegments, FitsPart, FitsSegment, FitsTable}
 use Rattle.vme_part_format.specs.Sizes.{IsCompact, IsCompactPart}
 use Rattle.vme_part_format.specs.Tables.{PartValue, SegmentValue, TableValue, last_of, part_value, segment_value}
 use Rattle.vme_part_format.specs.declared.part.Part.{Part}
+use Rattle.vme_part_format.specs.declared.segment.Segment.{Segment}
 use Rattle.vme_part_tables.proofs.Fitting.{has_ways}
-use Rattle.vme_parts.specs.Alike.{AllAlike, AreTooLong, HaveManyNodes, SegmentsDifferAt, SomeHaveTooManySteps}
+use Rattle.vme_parts.specs.Alike.{AllAlike, AreTooLong, HaveManyNodes, IsLike, SegmentsDifferAt, SomeHaveTooManySteps}
 use Rattle.vme_parts.specs.Buddies.{IsTableOf}
 use Rattle.vme_parts.specs.Files.{AllStand, IsPartOf, JoinsParts, SegmentsCover, SomeCovers}
 use Rattle.vme_parts.specs.Files.{files_of}
@@ -171,39 +172,46 @@ IsSegment-segments_of (p ∷ ps) fits =
     (FitsSegment-each p.listing None p.segments first_fits.segments))
     (IsSegment-segments_of ps (All-tail FitsPart p ps fits))
 
--- if the parts can be written, all of their sorted segments satisfy `IsSegment`
-pub IsSegment-sorted : (ps : List PartValue) (made sorted : List SegmentValue) → made ≡ segments_of ps
-    → IsPermutation made sorted → All FitsPart ps → All IsSegment sorted
-IsSegment-sorted ps made sorted e same fits =
-    All-permutation IsSegment made sorted same
-    (All-same IsSegment made (segments_of ps) e (IsSegment-segments_of ps fits))
+-- the segments of the parts, sorted: `made` are those of `parts`, and `sorted` are these in another order
+module _ (parts : List Part) (made sorted : List Segment)
+    (e : map segment_value made ≡ segments_of (map part_value parts)) (same : IsPermutation made sorted) where
+  -- the parts as values
+  abbrev ps : List PartValue
+  ps = map part_value parts
 
--- the sorted segments are those of the parts, so a difference among them is one between parts
-module _ (ps : List PartValue) (made sorted : List SegmentValue) (e : made ≡ segments_of ps)
-    (same : IsPermutation made sorted) where
+  -- the sorted segments as values
+  abbrev ordered : List SegmentValue
+  ordered = map segment_value sorted
+
+  -- as values, too, the sorted segments are the others in another order
+  same_values : IsPermutation (map segment_value made) ordered
+  same_values = IsPermutation-map segment_value made sorted same
+
   -- a segment of the parts is one of those sorted
-  Contains-sorted : (s : SegmentValue) → Contains (segments_of ps) s → Contains sorted s
+  Contains-sorted : (s : SegmentValue) → Contains (segments_of ps) s → Contains ordered s
   Contains-sorted s c =
-      Contains-permutation made sorted s same (subst (λ (ss : List SegmentValue). Contains ss s) (sym e) c)
+      Contains-permutation (map segment_value made) ordered s same_values
+      (subst (λ (ss : List SegmentValue). Contains ss s) (sym e) c)
 
   -- a segment of those sorted is one of the parts
-  Contains-unsorted : (s : SegmentValue) → Contains sorted s → Contains (segments_of ps) s
+  Contains-unsorted : (s : SegmentValue) → Contains ordered s → Contains (segments_of ps) s
   Contains-unsorted s c =
       subst (λ (ss : List SegmentValue). Contains ss s) e
-      (Contains-permutation sorted made s (IsPermutation-sym made sorted same) c)
+      (Contains-permutation ordered (map segment_value made) s
+      (IsPermutation-sym (map segment_value made) ordered same_values) c)
 
   -- if of the sorted segments those of the same files agree, they do so in the parts
-  pub AllAlike-unsorted : AllAlike sorted → AllAlike (segments_of ps)
+  pub AllAlike-unsorted : AllAlike ordered → AllAlike (segments_of ps)
   AllAlike-unsorted alike = λ s t p q h. alike s t (Contains-sorted s p) (Contains-sorted t q) h
 
   -- if ps are parts of the recording of `files`, each of the sorted segments stands for its files
   AllStand-sorted : (listing : Bool) → All (λ (p : PartValue). p.listing ≡ listing) ps → (files : List Block)
-      → All (IsPartOf files) ps → AllStand listing files sorted
-  AllStand-sorted listing listed files parts k d h =
-      let s = get_or sorted k d in
-      let there = Contains-of_part ps s (Contains-unsorted s (Contains-get_or sorted k d h)) in
+      → All (IsPartOf files) ps → AllStand listing files ordered
+  AllStand-sorted listing listed files are_parts k d h =
+      let s = get_or ordered k d in
+      let there = Contains-of_part ps s (Contains-unsorted s (Contains-get_or ordered k d h)) in
       let p = there.0 in
-      let is_part = All-contains (IsPartOf files) ps p parts there.1 in
+      let is_part = All-contains (IsPartOf files) ps p are_parts there.1 in
       let like = All-contains (λ (p : PartValue). p.listing ≡ listing) ps p listed there.1 in
       subst (λ l. SegmentStandsFor l s (files_of files s)) like
       (All-contains (λ (s : SegmentValue). SegmentStandsFor p.listing s (files_of files s)) p.segments s is_part.stands
@@ -211,34 +219,40 @@ module _ (ps : List PartValue) (made sorted : List SegmentValue) (e : made ≡ s
 
   -- if the sorted segments are too long, some of the files that the parts are of have too many steps
   pub SomeHaveTooManySteps-sorted : (listing : Bool) → All (λ (p : PartValue). p.listing ≡ listing) ps
-      → AreTooLong sorted
+      → AreTooLong ordered
       → (files : List Block) → All (IsPartOf files) ps → SomeHaveTooManySteps files
-  SomeHaveTooManySteps-sorted listing listed long files parts =
-      long listing files (AllStand-sorted listing listed files parts)
+  SomeHaveTooManySteps-sorted listing listed long files are_parts =
+      long listing files (AllStand-sorted listing listed files are_parts)
 
   -- the numbers of the sorted segments are those of the parts' segments, all together
-  sum_by-unsorted : (f : SegmentValue → ℕ) → sum_by f sorted ≡ sum_by f (segments_of ps)
-  sum_by-unsorted f = sum_by-IsPermutation f made sorted same ∙ ap (sum_by f) e
+  sum_by-unsorted : (f : SegmentValue → ℕ) → sum_by f ordered ≡ sum_by f (segments_of ps)
+  sum_by-unsorted f = sum_by-IsPermutation f (map segment_value made) ordered same_values ∙ ap (sum_by f) e
 
   -- if the sorted segments have too many nodes, so have those of the parts
-  pub HaveManyNodes-unsorted : HaveManyNodes sorted → HaveManyNodes (segments_of ps)
+  pub HaveManyNodes-unsorted : HaveManyNodes ordered → HaveManyNodes (segments_of ps)
   HaveManyNodes-unsorted many =
-      HaveManyNodes-more (segments_of ps) sorted (λ f joined. omega (arith, sum_by-unsorted f)) many
+      HaveManyNodes-more (segments_of ps) ordered (λ f joined. omega (arith, sum_by-unsorted f)) many
 
   -- what holds of all segments of the parts holds of all those sorted
-  All-sorted : (P : SegmentValue → Type 0) → All P (segments_of ps) → All P sorted
-  All-sorted P all = All-permutation P made sorted same (All-same P made (segments_of ps) e all)
+  All-sorted : (P : SegmentValue → Type 0) → All P (segments_of ps) → All P ordered
+  All-sorted P all =
+      All-permutation P (map segment_value made) ordered same_values
+      (All-same P (map segment_value made) (segments_of ps) e all)
+
+  -- if the parts can be written, all of their sorted segments satisfy `IsSegment`
+  pub IsSegment-sorted : All (λ (p : Part). FitsPart (part_value p)) parts → All IsSegment ordered
+  IsSegment-sorted fits = All-sorted IsSegment (IsSegment-segments_of ps (All-map FitsPart part_value parts fits))
 
   -- what the segments of the parts cover, the sorted ones cover
-  SegmentsCover-sorted : (n : ℕ) → SegmentsCover (segments_of ps) n → SegmentsCover sorted n
+  SegmentsCover-sorted : (n : ℕ) → SegmentsCover (segments_of ps) n → SegmentsCover ordered n
   SegmentsCover-sorted n c = (c.0, Contains-sorted c.0 c.1, c.2)
 
   -- what the sorted segments cover, those of the parts cover
-  SegmentsCover-unsorted : (n : ℕ) → SegmentsCover sorted n → SegmentsCover (segments_of ps) n
+  SegmentsCover-unsorted : (n : ℕ) → SegmentsCover ordered n → SegmentsCover (segments_of ps) n
   SegmentsCover-unsorted n c = (c.0, Contains-unsorted c.0 c.1, c.2)
 
   -- segments that are gathered from the sorted ones are gathered from those of the parts
-  pub Gathered-unsorted : (ss : List SegmentValue) → Gathered sorted ss → Gathered (segments_of ps) ss
+  pub Gathered-unsorted : (ss : List SegmentValue) → Gathered ordered ss → Gathered (segments_of ps) ss
   Gathered-unsorted ss g =
       record {
         order = g.order;
@@ -255,7 +269,7 @@ module _ (ps : List PartValue) (made sorted : List SegmentValue) (e : made ≡ s
       }
 
   -- if two of the sorted segments of the same files differ, they do so in the parts
-  pub SegmentsDifferAt-unsorted : (number : ℕ) → SegmentsDifferAt sorted number
+  pub SegmentsDifferAt-unsorted : (number : ℕ) → SegmentsDifferAt ordered number
       → SegmentsDifferAt (segments_of ps) number
   SegmentsDifferAt-unsorted number a =
       record {
@@ -268,36 +282,47 @@ module _ (ps : List PartValue) (made sorted : List SegmentValue) (e : made ≡ s
         differ = a.differ;
       }
 
--- the part r, whose segments are gathered from all segments of the parts ps, sorted
-module _ (ps : List PartValue) (r : PartValue) (made sorted : List SegmentValue) (e : made ≡ segments_of ps)
-    (same : IsPermutation made sorted) (listed : All (λ (p : PartValue). p.listing ≡ r.listing) ps)
-    (fits : All FitsPart ps) (sum : r.backplane < 2 ^ 64) (few : length r.segments < 2 ^ 32)
-    (g : Gathered sorted r.segments) where
-  -- a segment of those sorted is one of some part
-  Contains-sorted_of_part : (s : SegmentValue) → Contains sorted s → (p : PartValue) × Contains ps p
-      × Contains p.segments s
-  Contains-sorted_of_part s c =
-      Contains-of_part ps s
-      (subst (λ (ss : List SegmentValue). Contains ss s) e
-      (Contains-permutation sorted made s (IsPermutation-sym made sorted same) c))
+  -- the part that is joined of the segments that are gathered from those sorted
+  module _ (segments : List Segment) (backplane : ℕ) (listing : Bool) (like : All (IsLike backplane listing) ps)
+      (fits : All (λ (p : Part). FitsPart (part_value p)) parts) (sum : backplane < 2 ^ 64)
+      (few : length segments < 2 ^ 32) (g : Gathered ordered (map segment_value segments)) where
+    -- the joined part
+    abbrev joined : PartValue
+    joined = record { backplane = backplane; listing = listing; segments = map segment_value segments }
 
-  -- a segment of one of the parts is one of those sorted
-  Contains-part_in_sorted : (p : PartValue) (s : SegmentValue) → Contains ps p → Contains p.segments s
-      → Contains sorted s
-  Contains-part_in_sorted p s c h =
-      Contains-permutation made sorted s same
-      (subst (λ (ss : List SegmentValue). Contains ss s) (sym e) (Contains-segments_of ps p s c h))
+    -- the parts' listing is that of the joined part
+    listed : All (λ (p : PartValue). p.listing ≡ listing) ps
+    listed = All-weaker (IsLike backplane listing) (λ (p : PartValue). p.listing ≡ listing) (λ p both. both.1) ps like
 
-  -- r joins the parts ps
-  pub JoinsParts-sorted : JoinsParts ps r
-  JoinsParts-sorted = JoinsParts-joined ps r sorted Contains-sorted_of_part Contains-part_in_sorted listed fits sum few
-      g
+    -- the parts can be written
+    parts_fit : All FitsPart ps
+    parts_fit = All-map FitsPart part_value parts fits
 
-  -- r can be written
-  pub FitsPart-sorted : FitsPart r
-  FitsPart-sorted = FitsPart-joined ps r sorted Contains-sorted_of_part Contains-part_in_sorted listed fits sum few g
+    -- as values, too, the gathered segments are few
+    few_values : length (map segment_value segments) < 2 ^ 32
+    few_values = omega (arith, few, length-map segments segment_value)
 
-  -- if the parts are compact, so is r
-  pub IsCompactPart-sorted : All IsCompactPart ps → IsCompactPart r
-  IsCompactPart-sorted = IsCompactPart-joined ps r sorted Contains-sorted_of_part Contains-part_in_sorted listed fits
-      sum few g
+    -- a segment of those sorted is one of some part
+    Contains-sorted_of_part : (s : SegmentValue) → Contains ordered s → (p : PartValue) × Contains ps p
+        × Contains p.segments s
+    Contains-sorted_of_part s c = Contains-of_part ps s (Contains-unsorted s c)
+
+    -- a segment of one of the parts is one of those sorted
+    Contains-part_in_sorted : (p : PartValue) (s : SegmentValue) → Contains ps p → Contains p.segments s
+        → Contains ordered s
+    Contains-part_in_sorted p s c h = Contains-sorted s (Contains-segments_of ps p s c h)
+
+    -- it joins the parts
+    pub JoinsParts-sorted : JoinsParts ps joined
+    JoinsParts-sorted = JoinsParts-joined ps joined ordered Contains-sorted_of_part Contains-part_in_sorted listed
+        parts_fit sum few_values g
+
+    -- it can be written
+    pub FitsPart-sorted : FitsPart joined
+    FitsPart-sorted = FitsPart-joined ps joined ordered Contains-sorted_of_part Contains-part_in_sorted listed parts_fit
+        sum few_values g
+
+    -- if the parts are compact, so is it
+    pub IsCompactPart-sorted : All IsCompactPart ps → IsCompactPart joined
+    IsCompactPart-sorted = IsCompactPart-joined ps joined ordered Contains-sorted_of_part Contains-part_in_sorted listed
+        parts_fit sum few_values g

@@ -1,136 +1,67 @@
 use Rattle.std.proofs.Common.{◌≡◌, List, map, arith}
 use Rattle.std.specs.Prelude.{All}
 use Rattle.std.proofs.lemmas.List.{length-map}
-use Rattle.std.proofs.lemmas.List.Elements.{All-map, All-weaker}
-use Rattle.std.proofs.lemmas.List.Sorted.{IsPermutation-map}
+use Rattle.std.proofs.lemmas.List.Elements.{All-weaker}
 use Rattle.vme_trace.specs.declared.block.Block.{Block}
-use Rattle.vme_part_format.specs.Bounds.{FitsPart}
 use Rattle.vme_part_format.specs.Tables.{PartValue, part_value, segment_value}
 use Rattle.vme_parts.specs.Alike.{AreTooLong, HaveManyNodes, IsLike, SomeHaveTooManySteps}
 use Rattle.vme_parts.specs.Files.{IsPartOf}
 use Rattle.vme_parts.specs.Gathering.{segments_of}
-use Rattle.vme_parts.proofs.JoinedParts.{AllAlike-unsorted, JoinsParts-sorted, SegmentsDifferAt-unsorted}
-use Rattle.vme_parts.proofs.JoinedParts.{IsCompactPart-sorted}
-use Rattle.vme_parts.proofs.JoinedParts.{FitsPart-sorted, Gathered-unsorted, SomeHaveTooManySteps-sorted}
-use Rattle.vme_parts.proofs.JoinedParts.{HaveManyNodes-unsorted, IsSegment-sorted}
+use Rattle.vme_parts.proofs.JoinedParts.{AllAlike-unsorted, FitsPart-sorted, Gathered-unsorted, HaveManyNodes-unsorted}
+use Rattle.vme_parts.proofs.JoinedParts.{IsCompactPart-sorted, IsSegment-sorted, JoinsParts-sorted}
+use Rattle.vme_parts.proofs.JoinedParts.{SegmentsDifferAt-unsorted, SomeHaveTooManySteps-sorted}
 use Rattle.vme_parts.proofs.Likeness.{IsSegmentRefusal-map, AreRefused-differs, AreRefused-by_segments}
 use Rattle.vme_parts.proofs.join.join_parts.Goals as goal
 
 pub gather-requires-clause-segments : goal.gather-requires-clause-segments
 gather-requires-clause-segments c =
-    IsSegment-sorted (map part_value c.args.parts.items) (map segment_value c.in_ok-all.all.items)
-    (map segment_value c.sort_segments.new.segments.items) c.in_ok-all.ensures
-    (IsPermutation-map segment_value c.in_ok-all.all.items c.sort_segments.new.segments.items
-    c.sort_segments.ensures.same)
-    (All-map FitsPart part_value c.args.parts.items c.requires)
+    IsSegment-sorted c.args.parts.items c.in_ok-all.all.items c.sort_segments.new.segments.items c.in_ok-all.ensures
+    c.sort_segments.ensures.same c.requires
 
 pub returns-clause-joins : goal.returns-clause-joins
 returns-clause-joins c =
-    let parts = c.args.parts.items in
-    let segments = c.in-Ok.segments in
-    let r : PartValue = record {
-      backplane = c.backplane_of-backplane.result;
-      listing = c.has_marks-listing.result;
-      segments = map segment_value segments.items;
-    } in
-    JoinsParts-sorted (map part_value parts) r (map segment_value c.in_ok-all.all.items)
-    (map segment_value c.sort_segments.new.segments.items) c.in_ok-all.ensures
-    (IsPermutation-map segment_value c.in_ok-all.all.items c.sort_segments.new.segments.items
-    c.sort_segments.ensures.same)
-    (All-weaker (IsLike r.backplane r.listing) (λ (p : PartValue). p.listing ≡ r.listing) (λ p like. like.1)
-    (map part_value parts) (rw c.as_slice-3.ensures.value at c.in_ok-check_alike.ensures.like))
-    (All-map FitsPart part_value parts c.requires)
-    (omega arith)
-    (omega (
-      arith,
-      c.are_too_many.ensures.few c.if-are_too_many.false,
-      c.len-count.ensures,
-      length-map segments.items segment_value,
-    ))
-    c.in-Ok.ensures.gathered
+    JoinsParts-sorted c.args.parts.items c.in_ok-all.all.items c.sort_segments.new.segments.items c.in_ok-all.ensures
+    c.sort_segments.ensures.same c.in-Ok.segments.items c.backplane_of-backplane.result c.has_marks-listing.result
+    (rw c.as_slice-3.ensures.value at c.in_ok-check_alike.ensures.like) c.requires (omega arith)
+    (omega (arith, c.are_too_many.ensures.few c.if-are_too_many.false, c.len-count.ensures)) c.in-Ok.ensures.gathered
 
 pub returns-clause-fits : goal.returns-clause-fits
 returns-clause-fits c =
-    let parts = c.args.parts.items in
-    let segments = c.in-Ok.segments in
-    let r : PartValue = record {
-      backplane = c.backplane_of-backplane.result;
-      listing = c.has_marks-listing.result;
-      segments = map segment_value segments.items;
-    } in
-    FitsPart-sorted (map part_value parts) r (map segment_value c.in_ok-all.all.items)
-    (map segment_value c.sort_segments.new.segments.items) c.in_ok-all.ensures
-    (IsPermutation-map segment_value c.in_ok-all.all.items c.sort_segments.new.segments.items
-    c.sort_segments.ensures.same)
-    (All-weaker (IsLike r.backplane r.listing) (λ (p : PartValue). p.listing ≡ r.listing) (λ p like. like.1)
-    (map part_value parts) (rw c.as_slice-3.ensures.value at c.in_ok-check_alike.ensures.like))
-    (All-map FitsPart part_value parts c.requires)
-    (omega arith)
-    (omega (
-      arith,
-      c.are_too_many.ensures.few c.if-are_too_many.false,
-      c.len-count.ensures,
-      length-map segments.items segment_value,
-    ))
-    c.in-Ok.ensures.gathered
+    FitsPart-sorted c.args.parts.items c.in_ok-all.all.items c.sort_segments.new.segments.items c.in_ok-all.ensures
+    c.sort_segments.ensures.same c.in-Ok.segments.items c.backplane_of-backplane.result c.has_marks-listing.result
+    (rw c.as_slice-3.ensures.value at c.in_ok-check_alike.ensures.like) c.requires (omega arith)
+    (omega (arith, c.are_too_many.ensures.few c.if-are_too_many.false, c.len-count.ensures)) c.in-Ok.ensures.gathered
 
 pub returns-clause-one : goal.returns-clause-one
 returns-clause-one c =
     record {
       like = rw c.as_slice-3.ensures.value at c.in_ok-check_alike.ensures.like;
-      alike = AllAlike-unsorted (map part_value c.args.parts.items) (map segment_value c.in_ok-all.all.items)
-          (map segment_value c.sort_segments.new.segments.items) c.in_ok-all.ensures
-          (IsPermutation-map segment_value c.in_ok-all.all.items c.sort_segments.new.segments.items
-          c.sort_segments.ensures.same)
-          (rw c.as_slice-4.ensures.value at c.in_default.ensures.alike);
+      alike = AllAlike-unsorted c.args.parts.items c.in_ok-all.all.items c.sort_segments.new.segments.items
+          c.in_ok-all.ensures c.sort_segments.ensures.same (rw c.as_slice-4.ensures.value at c.in_default.ensures.alike);
     }
 
 pub returns-clause-compact : goal.returns-clause-compact
 returns-clause-compact c =
-    let parts = c.args.parts.items in
-    let segments = c.in-Ok.segments in
-    let r : PartValue = record {
-      backplane = c.backplane_of-backplane.result;
-      listing = c.has_marks-listing.result;
-      segments = map segment_value segments.items;
-    } in
-    IsCompactPart-sorted (map part_value parts) r (map segment_value c.in_ok-all.all.items)
-    (map segment_value c.sort_segments.new.segments.items) c.in_ok-all.ensures
-    (IsPermutation-map segment_value c.in_ok-all.all.items c.sort_segments.new.segments.items
-    c.sort_segments.ensures.same)
-    (All-weaker (IsLike r.backplane r.listing) (λ (p : PartValue). p.listing ≡ r.listing) (λ p like. like.1)
-    (map part_value parts) (rw c.as_slice-3.ensures.value at c.in_ok-check_alike.ensures.like))
-    (All-map FitsPart part_value parts c.requires)
-    (omega arith)
-    (omega (
-      arith,
-      c.are_too_many.ensures.few c.if-are_too_many.false,
-      c.len-count.ensures,
-      length-map segments.items segment_value,
-    ))
-    c.in-Ok.ensures.gathered
+    IsCompactPart-sorted c.args.parts.items c.in_ok-all.all.items c.sort_segments.new.segments.items c.in_ok-all.ensures
+    c.sort_segments.ensures.same c.in-Ok.segments.items c.backplane_of-backplane.result c.has_marks-listing.result
+    (rw c.as_slice-3.ensures.value at c.in_ok-check_alike.ensures.like) c.requires (omega arith)
+    (omega (arith, c.are_too_many.ensures.few c.if-are_too_many.false, c.len-count.ensures)) c.in-Ok.ensures.gathered
 
 pub compare_all-requires-clause-segments : goal.compare_all-requires-clause-segments
 compare_all-requires-clause-segments c =
     rw c.as_slice-4.ensures.value
-    (IsSegment-sorted (map part_value c.args.parts.items) (map segment_value c.in_ok-all.all.items)
-    (map segment_value c.sort_segments.new.segments.items) c.in_ok-all.ensures
-    (IsPermutation-map segment_value c.in_ok-all.all.items c.sort_segments.new.segments.items
-    c.sort_segments.ensures.same)
-    (All-map FitsPart part_value c.args.parts.items c.requires))
+    (IsSegment-sorted c.args.parts.items c.in_ok-all.all.items c.sort_segments.new.segments.items c.in_ok-all.ensures
+    c.sort_segments.ensures.same c.requires)
 
 pub compare_all-requires-clause-order : goal.compare_all-requires-clause-order
 compare_all-requires-clause-order c = rw c.as_slice-4.ensures.value c.in_ok-sort_segments.ensures.order
 
 pub returns-in-Err-clause-refused : goal.returns-in-Err-clause-refused
 returns-in-Err-clause-refused c =
-    let parts = map part_value c.args.parts.items in
     let (number, same, apart) = c.in-Err.ensures.apart in
-    AreRefused-differs parts c.in-Err.why number same
-    (SegmentsDifferAt-unsorted parts (map segment_value c.in_ok-all.all.items)
-    (map segment_value c.sort_segments.new.segments.items) c.in_ok-all.ensures
-    (IsPermutation-map segment_value c.in_ok-all.all.items c.sort_segments.new.segments.items
-    c.sort_segments.ensures.same) number (rw c.as_slice-4.ensures.value at apart))
+    AreRefused-differs (map part_value c.args.parts.items) c.in-Err.why number same
+    (SegmentsDifferAt-unsorted c.args.parts.items c.in_ok-all.all.items c.sort_segments.new.segments.items
+    c.in_ok-all.ensures c.sort_segments.ensures.same number (rw c.as_slice-4.ensures.value at apart))
 
 pub returns-in-Err-gather-clause-refused : goal.returns-in-Err-gather-clause-refused
 returns-in-Err-gather-clause-refused c =
@@ -145,24 +76,18 @@ returns-in-Err-gather-clause-refused c =
     (IsSegmentRefusal-map (AreTooLong sorted)
     ((files : List Block) → All (IsPartOf files) parts → SomeHaveTooManySteps files) (HaveManyNodes sorted)
     (HaveManyNodes (segments_of parts)) c.in-Err-gather.why
-    (λ long.
-    SomeHaveTooManySteps-sorted parts (map segment_value c.in_ok-all.all.items) sorted c.in_ok-all.ensures
-    (IsPermutation-map segment_value c.in_ok-all.all.items c.sort_segments.new.segments.items
-    c.sort_segments.ensures.same) listing listed long)
-    (λ many.
-    HaveManyNodes-unsorted parts (map segment_value c.in_ok-all.all.items) sorted c.in_ok-all.ensures
-    (IsPermutation-map segment_value c.in_ok-all.all.items c.sort_segments.new.segments.items
-    c.sort_segments.ensures.same) many)
+    (SomeHaveTooManySteps-sorted c.args.parts.items c.in_ok-all.all.items c.sort_segments.new.segments.items
+    c.in_ok-all.ensures c.sort_segments.ensures.same listing listed)
+    (HaveManyNodes-unsorted c.args.parts.items c.in_ok-all.all.items c.sort_segments.new.segments.items
+    c.in_ok-all.ensures c.sort_segments.ensures.same)
     c.in-Err-gather.ensures.refused)
 
 pub returns-then-are_too_many-clause-refused : goal.returns-then-are_too_many-clause-refused
 returns-then-are_too_many-clause-refused c =
     let segments = c.in-Ok.segments in (
       map segment_value segments.items,
-      Gathered-unsorted (map part_value c.args.parts.items) (map segment_value c.in_ok-all.all.items)
-          (map segment_value c.sort_segments.new.segments.items) c.in_ok-all.ensures
-          (IsPermutation-map segment_value c.in_ok-all.all.items c.sort_segments.new.segments.items
-          c.sort_segments.ensures.same) (map segment_value segments.items) c.in-Ok.ensures.gathered,
+      Gathered-unsorted c.args.parts.items c.in_ok-all.all.items c.sort_segments.new.segments.items c.in_ok-all.ensures
+          c.sort_segments.ensures.same (map segment_value segments.items) c.in-Ok.ensures.gathered,
       omega (
         arith,
         c.are_too_many.ensures.many c.if-are_too_many.true,
