@@ -32,7 +32,7 @@ use Rattle.vme_part_listing.specs.declared.listing.MonitorRun.{MonitorRun}
 use Rattle.vme_part_listing.specs.declared.listing.MonitorRuns.{MonitorRuns}
 use Rattle.vme_parts.specs.Covering.{AreNext}
 use Rattle.vme_parts.specs.Files.{AllStand, AreFiles}
-use Rattle.vme_parts.specs.Progress.{FoundAll, HasJudgedFiles}
+use Rattle.vme_parts.specs.Progress.{FoundAll, HasJudgedFiles, FitMemories}
 
 -- w has the run over the steps x of a monitor that begins at the opening o: the memory in which it ends, by its number
 -- (`place`), and its marks
@@ -51,13 +51,9 @@ pub record HasMarks (w : MonitorRuns) (o : Levels) (x : List Step) : Type 0 wher
       (phase_place acknowledge_memory_place) w.acknowledge o
       x
 
--- each memory is below the number of its monitor's memories
-pub record FitRuns (w : MonitorRuns) : Type 0 where
-  pub known : w.known.memory < 4
-  pub handshake : w.handshake.memory < 147
-  pub stability : w.stability.memory < 13
-  pub grant : w.grant.memory < 35
-  pub acknowledge : w.acknowledge.memory < 11
+-- the runs have memories of their monitors
+abbrev pub FitRuns : MonitorRuns → Type 0
+FitRuns w = FitMemories w.known.memory w.handshake.memory w.stability.memory w.grant.memory w.acknowledge.memory
 
 -- the marks of all monitors, in order
 abbrev pub marks_of_runs : MonitorRuns → List Mark

@@ -8,14 +8,14 @@ use Rattle.vme_trace.specs.Levels.{Levels}
 use Rattle.vme_trace.specs.Trace.{levels_after}
 use Rattle.vme_trace.specs.declared.step.Step.{Step}
 use Rattle.vme_monitor.specs.Outcome.{Outcome, composed_outcome}
-use Rattle.vme_part_format.specs.Tables.{TableValue}
+use Rattle.vme_part_format.specs.Tables.{TableValue, SegmentValue}
 use Rattle.vme_part_format.specs.declared.table.TableEntry.{TableEntry}
 use Rattle.vme_part_tables.specs.Runs.{AgreesWithRun, AgreesWithRuns}
 use Rattle.vme_part_tables.specs.Ways.{WideOutcome, ended_in, entry_outcome, followed_by, later_break, outcome_in}
 use Rattle.vme_part_tables.proofs.Composing.{run_from_leaving}
 use Rattle.vme_part_tables.proofs.Joining.{AgreesWithRun-followed_by}
-use Rattle.vme_parts.specs.Buddies.{IsTableOf}
-use Rattle.vme_parts.specs.Progress.{HasState, way_of}
+use Rattle.vme_parts.specs.Buddies.{IsTableOf, HasTables}
+use Rattle.vme_parts.specs.Progress.{HasState, way_of, FitMemories}
 use Rattle.vme_parts.specs.declared.state.State.{State}
 use Rattle.vme_parts.proofs.Runs.{IsRun}
 
@@ -30,7 +30,7 @@ AgreesWithRun-without_marks listing place w r t =
     record { leaving = t.leaving; first_break = t.first_break; marks = refl }
 
 -- a run of a table of n memories ends in one of them
-pub leaving-below : (n : ℕ) (t : TableValue) (k : ℕ) → IsTableOf n t → k < n → (outcome_in t k).leaving < n
+leaving-below : (n : ℕ) (t : TableValue) (k : ℕ) → IsTableOf n t → k < n → (outcome_in t k).leaving < n
 leaving-below n t k p h =
     let below : k < length t.entries = omega (arith, p.counted, h) in
     let d : TableEntry = record { next = 0; first_break = None } in
@@ -40,6 +40,20 @@ leaving-below n t k p h =
     (slice_get-get_or t.entries k d below) in
     let left = run_from_leaving (length t.entries) t.nodes e.next p.ways.nodes (p.ways.entries k d below) in
     subst (λ (w : WideOutcome). w.leaving < n) (sym at) (omega (arith, left, p.counted))
+
+-- the memories in which the runs of a segment's tables end are those of their monitors, if the runs begin in such
+pub FitMemories-next : {k h b g a known handshake stability grant acknowledge : ℕ} (s : SegmentValue) → HasTables s
+    → FitMemories k h b g a → known ≡ (outcome_in s.known k).leaving → handshake ≡ (outcome_in s.handshake h).leaving
+    → stability ≡ (outcome_in s.stability b).leaving → grant ≡ (outcome_in s.grant g).leaving
+    → acknowledge ≡ (outcome_in s.acknowledge a).leaving → FitMemories known handshake stability grant acknowledge
+FitMemories-next s tables fit known handshake stability grant acknowledge =
+    record {
+      known = rw known (leaving-below 4 s.known _ tables.known fit.known);
+      handshake = rw handshake (leaving-below 147 s.handshake _ tables.handshake fit.handshake);
+      stability = rw stability (leaving-below 13 s.stability _ tables.stability fit.stability);
+      grant = rw grant (leaving-below 35 s.grant _ tables.grant fit.grant);
+      acknowledge = rw acknowledge (leaving-below 11 s.acknowledge _ tables.acknowledge fit.acknowledge);
+    }
 
 -- if a monitor has the state s after the steps x, and the table t agrees with its runs over y, it has the state r after
 -- both

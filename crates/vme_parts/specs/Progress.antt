@@ -56,13 +56,18 @@ pub record FoundAll (s : States) (t : Trace) : Type 0 where
   pub few : t.opening.slots ≤ 21
   pub found : HasStates s t.opening t.steps
 
--- each memory is below the number of its monitor's memories
-pub record FitStates (s : States) : Type 0 where
-  pub known : s.known.memory < 4
-  pub handshake : s.handshake.memory < 147
-  pub stability : s.stability.memory < 13
-  pub grant : s.grant.memory < 35
-  pub acknowledge : s.acknowledge.memory < 11
+-- each number is that of a memory of its monitor, i.e. below the number of the monitor's memories
+pub record FitMemories (k h b g a : ℕ) : Type 0 where
+  pub known : k < 4
+  pub handshake : h < 147
+  pub stability : b < 13
+  pub grant : g < 35
+  pub acknowledge : a < 11
+
+-- the states have memories of their monitors
+abbrev pub FitStates : States → Type 0
+FitStates s =
+    FitMemories s.known.memory s.handshake.memory s.stability.memory s.grant.memory s.acknowledge.memory
 
 -- the tables of s agree with the monitors' runs over the steps y from the levels v
 pub record TellsAll (listing : Bool) (s : SegmentValue) (v : Levels) (y : List Step) : Type 0 where

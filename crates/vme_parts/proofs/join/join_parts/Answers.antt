@@ -37,7 +37,8 @@ returns-clause-one c =
     record {
       like = rw c.as_slice-3.ensures.value at c.in_ok-check_alike.ensures.like;
       alike = AllAlike-unsorted c.args.parts.items c.in_ok-all.all.items c.sort_segments.new.segments.items
-          c.in_ok-all.ensures c.sort_segments.ensures.same (rw c.as_slice-4.ensures.value at c.in_default.ensures.alike);
+          c.in_ok-all.ensures c.sort_segments.ensures.same
+          (rw c.as_slice-4.ensures.value at c.in_default.ensures.alike);
     }
 
 pub returns-clause-compact : goal.returns-clause-compact

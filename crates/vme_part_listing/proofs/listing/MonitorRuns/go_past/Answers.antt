@@ -10,10 +10,10 @@ use Rattle.vme_chains.specs.GrantMemory.{arbitration_place}
 use Rattle.vme_chains.specs.GrantRules.{grant_begin}
 use Rattle.vme_chains.specs.AcknowledgeRules.{acknowledge_begin, acknowledge_memory_place}
 use Rattle.vme_summary.specs.Runs.{known_run, handshake_run, stability_run, grant_run, acknowledge_run}
-use Rattle.vme_part_format.specs.Tables.{table_value}
+use Rattle.vme_part_format.specs.Tables.{table_value, segment_value}
 use Rattle.vme_part_listing.proofs.MarkedRuns.{HasRun-next}
 use Rattle.vme_parts.proofs.Runs.{IsRun-acknowledge, IsRun-grant, IsRun-handshake, IsRun-known, IsRun-stability}
-use Rattle.vme_parts.proofs.StateLemmas.{leaving-below}
+use Rattle.vme_parts.proofs.StateLemmas.{FitMemories-next}
 use Rattle.vme_part_listing.proofs.listing.MonitorRuns.go_past.Goals as goal
 
 pub go_past-requires-clause-memory : goal.go_past-requires-clause-memory
@@ -33,26 +33,9 @@ go_past-requires-5-clause-memory c = omega (arith, c.requires.fit.acknowledge, c
 
 pub returns-clause-fit : goal.returns-clause-fit
 returns-clause-fit c =
-    record {
-      known = rw c.in_ok-go_past.ensures.memory
-          (leaving-below 4 (table_value c.args.segment.now.known) c.args.self.now.known.memory c.requires.tables.known
-          c.requires.fit.known);
-      handshake = rw c.in_ok-go_past-2.ensures.memory
-          (leaving-below 147 (table_value c.args.segment.now.handshake) c.args.self.now.handshake.memory
-          c.requires.tables.handshake
-          c.requires.fit.handshake);
-      stability = rw c.in_ok-go_past-3.ensures.memory
-          (leaving-below 13 (table_value c.args.segment.now.stability) c.args.self.now.stability.memory
-          c.requires.tables.stability
-          c.requires.fit.stability);
-      grant = rw c.in_ok-go_past-4.ensures.memory
-          (leaving-below 35 (table_value c.args.segment.now.grant) c.args.self.now.grant.memory c.requires.tables.grant
-          c.requires.fit.grant);
-      acknowledge = rw c.in_ok-go_past-5.ensures.memory
-          (leaving-below 11 (table_value c.args.segment.now.acknowledge) c.args.self.now.acknowledge.memory
-          c.requires.tables.acknowledge
-          c.requires.fit.acknowledge);
-    }
+    FitMemories-next (segment_value c.args.segment.now) c.requires.tables c.requires.fit c.in_ok-go_past.ensures.memory
+    c.in_ok-go_past-2.ensures.memory c.in_ok-go_past-3.ensures.memory c.in_ok-go_past-4.ensures.memory
+    c.in_ok-go_past-5.ensures.memory
 
 pub returns-clause-shows : goal.returns-clause-shows
 returns-clause-shows c =

@@ -11,9 +11,9 @@ use Rattle.vme_chains.specs.GrantMemory.{arbitration_place}
 use Rattle.vme_chains.specs.GrantRules.{grant_begin}
 use Rattle.vme_chains.specs.AcknowledgeRules.{acknowledge_begin, acknowledge_memory_place}
 use Rattle.vme_summary.specs.Runs.{known_run, handshake_run, stability_run, grant_run, acknowledge_run}
-use Rattle.vme_part_format.specs.Tables.{table_value}
+use Rattle.vme_part_format.specs.Tables.{table_value, segment_value}
 use Rattle.vme_parts.proofs.Runs.{IsRun-acknowledge, IsRun-grant, IsRun-handshake, IsRun-known, IsRun-stability}
-use Rattle.vme_parts.proofs.StateLemmas.{leaving-below, HasState-next}
+use Rattle.vme_parts.proofs.StateLemmas.{FitMemories-next, HasState-next}
 use Rattle.vme_parts.proofs.state.States.past.Goals as goal
 
 pub past-requires-clause-memory : goal.past-requires-clause-memory
@@ -33,26 +33,8 @@ past-requires-5-clause-memory c = omega (arith, c.requires.fit.acknowledge, c.re
 
 pub returns-clause-fit : goal.returns-clause-fit
 returns-clause-fit c =
-    record {
-      known = rw c.past.ensures.memory
-          (leaving-below 4 (table_value c.args.segment.now.known) c.args.self.now.known.memory c.requires.tables.known
-          c.requires.fit.known);
-      handshake = rw c.past-2.ensures.memory
-          (leaving-below 147 (table_value c.args.segment.now.handshake) c.args.self.now.handshake.memory
-          c.requires.tables.handshake
-          c.requires.fit.handshake);
-      stability = rw c.past-3.ensures.memory
-          (leaving-below 13 (table_value c.args.segment.now.stability) c.args.self.now.stability.memory
-          c.requires.tables.stability
-          c.requires.fit.stability);
-      grant = rw c.past-4.ensures.memory
-          (leaving-below 35 (table_value c.args.segment.now.grant) c.args.self.now.grant.memory c.requires.tables.grant
-          c.requires.fit.grant);
-      acknowledge = rw c.past-5.ensures.memory
-          (leaving-below 11 (table_value c.args.segment.now.acknowledge) c.args.self.now.acknowledge.memory
-          c.requires.tables.acknowledge
-          c.requires.fit.acknowledge);
-    }
+    FitMemories-next (segment_value c.args.segment.now) c.requires.tables c.requires.fit c.past.ensures.memory
+    c.past-2.ensures.memory c.past-3.ensures.memory c.past-4.ensures.memory c.past-5.ensures.memory
 
 pub returns-clause-found : goal.returns-clause-found
 returns-clause-found c =
