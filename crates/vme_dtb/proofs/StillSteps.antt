@@ -27,6 +27,7 @@ use Rattle.vme_monitor.specs.declared.tracking.TransferPhase.{TransferPhase}
 use Rattle.vme_monitor.specs.declared.tracking.TransferPhase.TheVariants.{Closed, Reading, Writing, Answered}
 use Rattle.vme_dtb.specs.CycleState.{after_answer}
 use Rattle.vme_dtb.specs.Edge.{cycle_start_of, edges_between, first_of, is_still, is_answer_not_high}
+use Rattle.vme_dtb.specs.Edge.{closes_between, stays_on}
 use Rattle.vme_dtb.specs.Machine.{answer_in, answered_in, fault_if, cycle_fault, data_in, dtb_next, dtb_observation}
 use Rattle.vme_dtb.specs.Machine.{dtb_step}
 use Rattle.vme_dtb.specs.Machine.{handshake_fault, is_doubled, has_answer, is_left_unanswered, memory_after}
@@ -116,69 +117,61 @@ absent_edges u = record {
   unaddressed = u;
 }
 
--- if no test of an edge holds, the step has no edges
-edges_by_tests-absent : (a b s c r0 r1 f0 f1 d e g h u : Bool) (x : CycleStart) (y : Bool) (o : Option ℕ) → a ≡ false
-    → b ≡ false → s ≡ false → c ≡ false → r0 ≡ false → r1 ≡ false → f0 ≡ false → f1 ≡ false → d ≡ false → e ≡ false
-    → g ≡ false → h ≡ false
-    → edges_by_tests a b s c r0 r1 f0 f1 d e g h u x y o ≡ absent_edges u
-edges_by_tests-absent a b s c r0 r1 f0 f1 d e g h u x y o pa pb ps pc p0 p1 q0 q1 pd pe pg ph = rw (
-  pa,
-  pb,
-  ps,
-  pc,
-  p0,
-  p1,
-  q0,
-  q1,
-  pd,
-  pe,
-  pg,
-  ph,
-) refl
+-- steps with equal tests have equal edges
+pub edges_by_tests-alike : (a' b' s' c' r0' r1' f0' f1' d' e' g' h' u' a b s c r0 r1 f0 f1 d e g h u : Bool)
+    (x : CycleStart) (y : Bool) (o : Option ℕ) → a ≡ a' → b ≡ b' → s ≡ s' → c ≡ c' → r0 ≡ r0' → r1 ≡ r1' → f0 ≡ f0'
+    → f1 ≡ f1' → d ≡ d' → e ≡ e' → g ≡ g' → h ≡ h' → u ≡ u'
+    → edges_by_tests a' b' s' c' r0' r1' f0' f1' d' e' g' h' u' x y o
+    ≡ edges_by_tests a b s c r0 r1 f0 f1 d e g h u x y o
+edges_by_tests-alike a' b' s' c' r0' r1' f0' f1' d' e' g' h' u' a b s c r0 r1 f0 f1 d e g h u x y o pa pb ps pc p0 p1 q0
+    q1 pd pe pg ph pu =
+    rw (pa, pb, ps, pc, p0, p1, q0, q1, pd, pe, pg, ph, pu) refl
+
+module _ (v w : Levels) where
+  -- a line that stays as it is has the level that it had
+  level-stays : (l : ℕ) → stays_on v w l ≡ true → level_at w l ≡ level_at v l
+  level-stays l h = same_level-equal (level_at v l) (level_at w l) h
+
+  -- it doesn't fall
+  pub falls_between-stays : (l : ℕ) → stays_on v w l ≡ true → falls_between v w l ≡ false
+  falls_between-stays l h = ap (λ x. is_high (level_at v l) && is_low x) (level-stays l h)
+      ∙ not_high_and_low (level_at v l)
+
+  -- it doesn't rise
+  pub rises_between-stays : (l : ℕ) → stays_on v w l ≡ true → rises_between v w l ≡ false
+  rises_between-stays l h = ap (λ x. is_low (level_at v l) && is_high x) (level-stays l h)
+      ∙ not_low_and_high (level_at v l)
+
+  -- both strobes are high after the step exactly if they were before it, if they stay as they are
+  strobes_high_in-stays : stays_on v w DS0 ≡ true → stays_on v w DS1 ≡ true → strobes_high_in w ≡ strobes_high_in v
+  strobes_high_in-stays h k = ap (λ x. is_high x && is_high (level_at w DS1)) (level-stays DS0 h)
+      ∙ ap (λ x. is_high (level_at v DS0) && is_high x) (level-stays DS1 k)
+
+  -- a strobe is low after the step exactly if one was before it, if they stay as they are
+  strobe_low_in-stays : stays_on v w DS0 ≡ true → stays_on v w DS1 ≡ true → strobe_low_in w ≡ strobe_low_in v
+  strobe_low_in-stays h k = ap (λ x. is_low x || is_low (level_at w DS1)) (level-stays DS0 h)
+      ∙ ap (λ x. is_low (level_at v DS0) || is_low x) (level-stays DS1 k)
+
+  -- no transfer starts if the strobes stay as they are
+  pub starts_between-stays : stays_on v w DS0 ≡ true → stays_on v w DS1 ≡ true → starts_between v w ≡ false
+  starts_between-stays h k = ap (λ b. strobes_high_in v && b) (strobe_low_in-stays h k)
+      ∙ not_high_and_one_low (level_at v DS0) (level_at v DS1)
+
+  -- no transfer closes if the strobes stay as they are
+  pub closes_between-stays : stays_on v w DS0 ≡ true → stays_on v w DS1 ≡ true → closes_between v w ≡ false
+  closes_between-stays h k = ap (λ b. b && not (strobes_high_in v)) (strobes_high_in-stays h k)
+      ∙ and-not_self (strobes_high_in v)
 
 module _ (v w : Levels) (still : is_still v w ≡ true) where
-  -- after a still step AS*, the strobes and the answer lines have the levels that they had
-  levels-still : (level_at w AS ≡ level_at v AS) × (level_at w DS0 ≡ level_at v DS0) × (level_at w DS1 ≡ level_at v DS1)
-      × (level_at w DTACK ≡ level_at v DTACK) × (level_at w BERR ≡ level_at v BERR)
-  levels-still =
-      let all = and-five_parts (same_level (level_at v AS) (level_at w AS))
-      (same_level (level_at v DS0) (level_at w DS0))
-      (same_level (level_at v DS1) (level_at w DS1)) (same_level (level_at v DTACK) (level_at w DTACK))
-      (same_level (level_at v BERR) (level_at w BERR)) still in (
-        same_level-equal (level_at v AS) (level_at w AS) all.0,
-        same_level-equal (level_at v DS0) (level_at w DS0) all.1,
-        same_level-equal (level_at v DS1) (level_at w DS1) all.2,
-        same_level-equal (level_at v DTACK) (level_at w DTACK) all.3,
-        same_level-equal (level_at v BERR) (level_at w BERR) all.4,
-      )
-
-  -- a line with the level that it had doesn't fall
-  falls_between-still : (l : ℕ) → level_at w l ≡ level_at v l → falls_between v w l ≡ false
-  falls_between-still l e = ap (λ x. is_high (level_at v l) && is_low x) e ∙ not_high_and_low (level_at v l)
-
-  -- a line with the level that it had doesn't rise
-  rises_between-still : (l : ℕ) → level_at w l ≡ level_at v l → rises_between v w l ≡ false
-  rises_between-still l e = ap (λ x. is_low (level_at v l) && is_high x) e ∙ not_low_and_high (level_at v l)
-
-  -- both strobes are high after a still step exactly if they were before it
-  strobes_high_in-still : strobes_high_in w ≡ strobes_high_in v
-  strobes_high_in-still = ap (λ x. is_high x && is_high (level_at w DS1)) levels-still.1
-      ∙ ap (λ x. is_high (level_at v DS0) && is_high x)
-      levels-still.2
-
-  -- a strobe is low after a still step exactly if one was before it
-  strobe_low_in-still : strobe_low_in w ≡ strobe_low_in v
-  strobe_low_in-still = ap (λ x. is_low x || is_low (level_at w DS1)) levels-still.1
-      ∙ ap (λ x. is_low (level_at v DS0) || is_low x) levels-still.2
+  -- AS*, the strobes and the answer lines stay as they are
+  parts-still : (stays_on v w AS ≡ true) × (stays_on v w DS0 ≡ true) × (stays_on v w DS1 ≡ true)
+      × (stays_on v w DTACK ≡ true) × (stays_on v w BERR ≡ true)
+  parts-still = and-five_parts (stays_on v w AS) (stays_on v w DS0) (stays_on v w DS1) (stays_on v w DTACK)
+      (stays_on v w BERR) still
 
   -- no transfer starts at a still step
   starts_between-still : starts_between v w ≡ false
-  starts_between-still = ap (λ b. strobes_high_in v && b) strobe_low_in-still
-      ∙ not_high_and_one_low (level_at v DS0) (level_at v DS1)
-
-  -- no transfer closes at a still step
-  closes_between-still : (strobes_high_in w && not (strobes_high_in v)) ≡ false
-  closes_between-still = ap (λ b. b && not (strobes_high_in v)) strobes_high_in-still ∙ and-not_self (strobes_high_in v)
+  starts_between-still = starts_between-stays v w parts-still.1 parts-still.2
 
   -- AS* is low neither before nor after the step
   abbrev unaddressed_in : Bool
@@ -187,18 +180,17 @@ module _ (v w : Levels) (still : is_still v w ≡ true) where
   -- a still step has no edges
   edges_between-still : edges_between v w ≡ absent_edges unaddressed_in
   edges_between-still =
-      edges_by_tests-absent (falls_between v w AS) (rises_between v w AS) (starts_between v w) (strobes_high_in w
-      && not (strobes_high_in v)) (rises_between v w DS0) (rises_between v w DS1) (falls_between v w DS0)
-      (falls_between v w DS1) (falls_between v w DTACK)
+      sym (edges_by_tests-alike false false false false false false false false false false false false unaddressed_in
+      (falls_between v w AS) (rises_between v w AS) (starts_between v w) (closes_between v w) (rises_between v w DS0)
+      (rises_between v w DS1) (falls_between v w DS0) (falls_between v w DS1) (falls_between v w DTACK)
       (falls_between v w BERR) (rises_between v w DTACK) (rises_between v w BERR) unaddressed_in (cycle_start_of w)
       (is_low (level_at w WRITE)) (first_of (is_answer_not_high v w DTACK) DTACK (is_answer_not_high v w BERR) BERR)
-      (falls_between-still AS levels-still.0) (rises_between-still AS levels-still.0) starts_between-still
-      closes_between-still
-      (rises_between-still DS0 levels-still.1) (rises_between-still DS1 levels-still.2)
-      (falls_between-still DS0 levels-still.1) (falls_between-still DS1 levels-still.2)
-      (falls_between-still DTACK levels-still.3)
-      (falls_between-still BERR levels-still.4) (rises_between-still DTACK levels-still.3)
-      (rises_between-still BERR levels-still.4)
+      (falls_between-stays v w AS parts-still.0) (rises_between-stays v w AS parts-still.0) starts_between-still
+      (closes_between-stays v w parts-still.1 parts-still.2) (rises_between-stays v w DS0 parts-still.1)
+      (rises_between-stays v w DS1 parts-still.2) (falls_between-stays v w DS0 parts-still.1)
+      (falls_between-stays v w DS1 parts-still.2) (falls_between-stays v w DTACK parts-still.3)
+      (falls_between-stays v w BERR parts-still.4) (rises_between-stays v w DTACK parts-still.3)
+      (rises_between-stays v w BERR parts-still.4) refl)
 
   -- if no answer comes and no transfer starts, the phase is the one before, unless both strobes are high
   tracked-by_tests : (h a s x : Bool) (p : TransferPhase) (q : TransferPhase) → h ≡ x → a ≡ false → s ≡ false
@@ -208,12 +200,13 @@ module _ (v w : Levels) (still : is_still v w ≡ true) where
   -- no answer comes at a still step
   answer_between-still : answer_between v w ≡ false
   answer_between-still = or_from (falls_between v w DTACK) (falls_between v w BERR)
-      (falls_between-still DTACK levels-still.3) (falls_between-still BERR levels-still.4)
+      (falls_between-stays v w DTACK parts-still.3) (falls_between-stays v w BERR parts-still.4)
 
   -- a still step leaves the phase as it is, unless both strobes are high
   tracked-still : (p : TransferPhase) → tracked p v w ≡ cond (strobes_high_in v) Closed p
   tracked-still p = tracked-by_tests (strobes_high_in w) (answer_between v w) (starts_between v w) (strobes_high_in v) p
-      (cond (is_low (level_at w WRITE)) Writing Reading) strobes_high_in-still answer_between-still starts_between-still
+      (cond (is_low (level_at w WRITE)) Writing Reading) (strobes_high_in-stays v w parts-still.1 parts-still.2)
+      answer_between-still starts_between-still
 
 module _ (t : Trace) (stretch : Stretch) (n : ℕ) (m : HandshakeMemory) (holds : Holds t stretch n m) where
   -- a phase that is right of n is closed if both strobes are high
@@ -259,7 +252,7 @@ module _ (t : Trace) (stretch : Stretch) (n : ℕ) (m : HandshakeMemory) (holds 
       let w = new t n in
       let u = not (is_low (level_at v AS) || is_low (level_at w AS)) in
       let e = entered m.transfer v w in
-      let kept = levels-still v w still in
+      let kept = parts-still v w still in
       let none : answer_in e (absent_edges u) ≡ None = cond-none (is_unanswered e) None refl in
       let no_mark : answered_in e v w (absent_edges u) ≡ None = ap
       (λ (o : Option ℕ). option_map (λ (l : ℕ). answer_on e l) o) none in
@@ -271,9 +264,9 @@ module _ (t : Trace) (stretch : Stretch) (n : ℕ) (m : HandshakeMemory) (holds 
       (is_low (level_at w BERR) && (m.berr_may_rise || false))
       (tracked-still v w still m.transfer ∙ transfer-phase_kept m.transfer holds.transfer)
       (ap (λ o. cond (is_some o) (after_answer m.cycle (is_writing e)) m.cycle) none)
-      (may_rise-still (is_low (level_at w DTACK)) (is_low (level_at v DTACK)) _ m.dtack_may_rise (ap is_low kept.3)
-      holds.dtack) (may_rise-still (is_low (level_at w BERR)) (is_low (level_at v BERR)) _ m.berr_may_rise
-      (ap is_low kept.4)
+      (may_rise-still (is_low (level_at w DTACK)) (is_low (level_at v DTACK)) _ m.dtack_may_rise
+      (ap is_low (level-stays v w DTACK kept.3)) holds.dtack) (may_rise-still (is_low (level_at w BERR)) (is_low (level_at v BERR)) _ m.berr_may_rise
+      (ap is_low (level-stays v w BERR kept.4))
       holds.berr))
       (option_or-none (handshake_fault m e (absent_edges u))
       (cycle_fault m.cycle (is_writing e) (answer_in e (absent_edges u)))

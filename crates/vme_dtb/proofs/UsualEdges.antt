@@ -1,21 +1,19 @@
 -- The edges of the usual kinds of steps: DTACK* alone falls or rises, AS* alone falls, or the strobes move.
-use Rattle.std.proofs.Common.{◌≡◌, ℕ, Bool, true, false, ◌&&◌, ◌||◌, not, refl, ◌∙◌, ap, Option, Some, None, cond}
+use Rattle.std.proofs.Common.{◌≡◌, ℕ, Bool, true, false, ◌&&◌, ◌||◌, not, refl, Option, Some, None, cond}
 use Rattle.std.proofs.lemmas.Bool.{not_from_true}
-use Rattle.std.proofs.Math.Bool.{and-not_self}
-use Rattle.vme_trace.specs.Edges.{falls_between, rises_between, starts_between, strobes_high_in}
+use Rattle.vme_trace.specs.Edges.{falls_between, rises_between, starts_between}
 use Rattle.vme_trace.specs.LineNumbers.{AS, DS0, DS1, DTACK, BERR, WRITE}
 use Rattle.vme_trace.specs.Levels.{Levels, level_at, is_low, is_high}
 use Rattle.vme_trace.specs.declared.level.Level.{Level}
 use Rattle.vme_trace.specs.declared.level.Level.TheVariants.{Low, High, Unknown}
-use Rattle.vme_trace.proofs.Changing.{not_high_and_low, not_low_and_high}
 use Rattle.vme_monitor.specs.Run.{no_step_marks}
 use Rattle.vme_monitor.specs.declared.mark.CycleStart.{CycleStart}
 use Rattle.vme_dtb.specs.Edge.{cycle_start_of, edges_between, closes_between, first_of, is_addressed}
 use Rattle.vme_dtb.specs.Edge.{is_answer_not_high, stays_on}
 use Rattle.vme_dtb.specs.UsualSteps.{is_answer_alone, is_start_alone, is_strobes_alone}
 use Rattle.vme_dtb.specs.declared.edges.Edges.{Edges}
-use Rattle.vme_dtb.proofs.StillSteps.{and-five_parts, edges_by_tests}
-use Rattle.vme_dtb.proofs.StillSteps.{not_high_and_one_low, same_level-equal}
+use Rattle.vme_dtb.proofs.StillSteps.{and-five_parts, closes_between-stays, edges_by_tests, edges_by_tests-alike}
+use Rattle.vme_dtb.proofs.StillSteps.{falls_between-stays, rises_between-stays, starts_between-stays}
 
 -- the edges of a step that has none, while AS* is low
 abbrev no_edges : Edges
@@ -92,71 +90,6 @@ answer_not_high-none true true true b c k l h = refl
 answer_not_high-none true true false b c k l h = absurd (cc)
 answer_not_high-none true false y b c k l h = absurd (cc)
 
--- if of all tests only that of the fall of DTACK* holds, the edges are those of an answer
-answer_edges-by_tests : (a b s c r0 r1 f0 f1 d e g h u : Bool) (x : CycleStart) (y : Bool) (o : Option ℕ) → a ≡ false
-    → b ≡ false
-    → s ≡ false → c ≡ false → r0 ≡ false → r1 ≡ false → f0 ≡ false → f1 ≡ false → d ≡ true → e ≡ false → g ≡ false → h
-    ≡ false → u ≡ false
-    → answer_edges ≡ edges_by_tests a b s c r0 r1 f0 f1 d e g h u x y o
-answer_edges-by_tests a b s c r0 r1 f0 f1 d e g h u x y o pa pb ps pc p0 p1 q0 q1 pd pe pg ph pu = rw (
-  pa,
-  pb,
-  ps,
-  pc,
-  p0,
-  p1,
-  q0,
-  q1,
-  pd,
-  pe,
-  pg,
-  ph,
-  pu,
-) refl
-
--- if of all tests of edges only that of the rise of DTACK* holds, the edges are those of a rise of DTACK*
-ready_edges-by_tests : (a b s c r0 r1 f0 f1 d e g h u : Bool) (x : CycleStart) (y : Bool) (o : Option ℕ) → a ≡ false → b
-    ≡ false
-    → s ≡ false → c ≡ false → r0 ≡ false → r1 ≡ false → f0 ≡ false → f1 ≡ false → d ≡ false → e ≡ false → g ≡ true → h
-    ≡ false
-    → ready_edges u ≡ edges_by_tests a b s c r0 r1 f0 f1 d e g h u x y o
-ready_edges-by_tests a b s c r0 r1 f0 f1 d e g h u x y o pa pb ps pc p0 p1 q0 q1 pd pe pg ph = rw (
-  pa,
-  pb,
-  ps,
-  pc,
-  p0,
-  p1,
-  q0,
-  q1,
-  pd,
-  pe,
-  pg,
-  ph,
-) refl
-
--- if of all tests only that of the fall of AS* holds, the edges are those of the start of a cycle
-start_edges-by_tests : (a b s c r0 r1 f0 f1 d e g h u : Bool) (x : CycleStart) (y : Bool) (o : Option ℕ) → a ≡ true → b
-    ≡ false
-    → s ≡ false → c ≡ false → r0 ≡ false → r1 ≡ false → f0 ≡ false → f1 ≡ false → d ≡ false → e ≡ false → g ≡ false → h
-    ≡ false → u ≡ false
-    → start_edges x ≡ edges_by_tests a b s c r0 r1 f0 f1 d e g h u x y o
-start_edges-by_tests a b s c r0 r1 f0 f1 d e g h u x y o pa pb ps pc p0 p1 q0 q1 pd pe pg ph pu = rw (
-  pa,
-  pb,
-  ps,
-  pc,
-  p0,
-  p1,
-  q0,
-  q1,
-  pd,
-  pe,
-  pg,
-  ph,
-  pu,
-) refl
-
 -- if the answer lines don't move, and AS* doesn't fall, the edges are those of the strobes and of a rise of AS*
 strobes_edges-by_tests : (a b s c r0 r1 f0 f1 d e g h u : Bool) (x : CycleStart) (y : Bool) (o : Option ℕ) → a ≡ false
     → cond s o None ≡ None → d ≡ false → e ≡ false → g ≡ false → h ≡ false → u ≡ false
@@ -166,37 +99,6 @@ strobes_edges-by_tests : (a b s c r0 r1 f0 f1 d e g h u : Bool) (x : CycleStart)
 strobes_edges-by_tests a b s c r0 r1 f0 f1 d e g h u x y o pa po pd pe pg ph pu = rw (pa, po, pd, pe, pg, ph, pu) refl
 
 module _ (v w : Levels) where
-  -- a line that stays as it is doesn't fall
-  pub falls_between-stays : (l : ℕ) → stays_on v w l ≡ true → falls_between v w l ≡ false
-  falls_between-stays l h = ap (λ x. is_high (level_at v l) && is_low x)
-      (same_level-equal (level_at v l) (level_at w l) h)
-      ∙ not_high_and_low (level_at v l)
-
-  -- a line that stays as it is doesn't rise
-  rises_between-stays : (l : ℕ) → stays_on v w l ≡ true → rises_between v w l ≡ false
-  rises_between-stays l h = ap (λ x. is_low (level_at v l) && is_high x)
-      (same_level-equal (level_at v l) (level_at w l) h)
-      ∙ not_low_and_high (level_at v l)
-
-  -- no transfer starts if the strobes stay as they are
-  pub starts_between-stays : stays_on v w DS0 ≡ true → stays_on v w DS1 ≡ true → starts_between v w ≡ false
-  starts_between-stays h k =
-      ap (λ x. strobes_high_in v && (is_low x || is_low (level_at w DS1)))
-      (same_level-equal (level_at v DS0) (level_at w DS0) h)
-      ∙ ap (λ x. strobes_high_in v && (is_low (level_at v DS0) || is_low x))
-      (same_level-equal (level_at v DS1) (level_at w DS1)
-      k)
-      ∙ not_high_and_one_low (level_at v DS0) (level_at v DS1)
-
-  -- no transfer closes if the strobes stay as they are
-  closes_between-stays : stays_on v w DS0 ≡ true → stays_on v w DS1 ≡ true → closes_between v w ≡ false
-  closes_between-stays h k =
-      ap (λ x. (is_high x && is_high (level_at w DS1)) && not (strobes_high_in v))
-      (same_level-equal (level_at v DS0) (level_at w DS0) h)
-      ∙ ap (λ x. (is_high (level_at v DS0) && is_high x) && not (strobes_high_in v))
-      (same_level-equal (level_at v DS1) (level_at w DS1) k)
-      ∙ and-not_self (strobes_high_in v)
-
   -- the first answer line that is high neither before nor after the step
   abbrev answer_not_high_in : Option ℕ
   answer_not_high_in = first_of (is_answer_not_high v w DTACK) DTACK (is_answer_not_high v w BERR) BERR
@@ -207,13 +109,14 @@ module _ (v w : Levels) where
       ≡ edges_between v w
   answer_edges-between alone falls addressed =
       let all = and-four_parts (stays_on v w AS) (stays_on v w DS0) (stays_on v w DS1) (stays_on v w BERR) alone in
-      answer_edges-by_tests _ _ _ _ _ _ _ _ _ _ _ _ _ (cycle_start_of w) (is_low (level_at w WRITE)) answer_not_high_in
-      (falls_between-stays AS all.0)
-      (rises_between-stays AS all.0) (starts_between-stays all.1 all.2) (closes_between-stays all.1 all.2)
-      (rises_between-stays DS0 all.1) (rises_between-stays DS1 all.2)
-      (falls_between-stays DS0 all.1) (falls_between-stays DS1 all.2) falls
-      (falls_between-stays BERR all.3) (falls-not_rises (level_at v DTACK) (level_at w DTACK) falls).0
-      (rises_between-stays BERR all.3)
+      edges_by_tests-alike false false false false false false false false true false false false false
+      _ _ _ _ _ _ _ _ _ _ _ _ _ (cycle_start_of w) (is_low (level_at w WRITE)) answer_not_high_in
+      (falls_between-stays v w AS all.0)
+      (rises_between-stays v w AS all.0) (starts_between-stays v w all.1 all.2) (closes_between-stays v w all.1 all.2)
+      (rises_between-stays v w DS0 all.1) (rises_between-stays v w DS1 all.2)
+      (falls_between-stays v w DS0 all.1) (falls_between-stays v w DS1 all.2) falls
+      (falls_between-stays v w BERR all.3) (falls-not_rises (level_at v DTACK) (level_at w DTACK) falls).0
+      (rises_between-stays v w BERR all.3)
       (not_from_true _ addressed)
 
   -- a step in which DTACK* alone rises has the edges of that
@@ -222,13 +125,14 @@ module _ (v w : Levels) where
       ≡ edges_between v w
   ready_edges-between alone rises =
       let all = and-four_parts (stays_on v w AS) (stays_on v w DS0) (stays_on v w DS1) (stays_on v w BERR) alone in
-      ready_edges-by_tests _ _ _ _ _ _ _ _ _ _ _ _ (not (is_addressed v w)) (cycle_start_of w)
+      edges_by_tests-alike false false false false false false false false false false true false
+      (not (is_addressed v w)) _ _ _ _ _ _ _ _ _ _ _ _ (not (is_addressed v w)) (cycle_start_of w)
       (is_low (level_at w WRITE)) answer_not_high_in
-      (falls_between-stays AS all.0) (rises_between-stays AS all.0) (starts_between-stays all.1 all.2)
-      (closes_between-stays all.1 all.2) (rises_between-stays DS0 all.1)
-      (rises_between-stays DS1 all.2) (falls_between-stays DS0 all.1) (falls_between-stays DS1 all.2)
+      (falls_between-stays v w AS all.0) (rises_between-stays v w AS all.0) (starts_between-stays v w all.1 all.2)
+      (closes_between-stays v w all.1 all.2) (rises_between-stays v w DS0 all.1)
+      (rises_between-stays v w DS1 all.2) (falls_between-stays v w DS0 all.1) (falls_between-stays v w DS1 all.2)
       (rises-not_falls (level_at v DTACK) (level_at w DTACK) rises)
-      (falls_between-stays BERR all.3) rises (rises_between-stays BERR all.3)
+      (falls_between-stays v w BERR all.3) rises (rises_between-stays v w BERR all.3) refl
 
   -- a step in which AS* alone falls has the edges of the start of a cycle
   pub start_edges-between : is_start_alone v w ≡ true → start_edges (cycle_start_of w) ≡ edges_between v w
@@ -236,13 +140,14 @@ module _ (v w : Levels) where
       let all = and-five_parts (falls_between v w AS) (stays_on v w DS0) (stays_on v w DS1) (stays_on v w DTACK)
       (stays_on v w BERR) alone in
       let fall = falls-not_rises (level_at v AS) (level_at w AS) all.0 in
-      start_edges-by_tests _ _ _ _ _ _ _ _ _ _ _ _ _ (cycle_start_of w)
+      edges_by_tests-alike true false false false false false false false false false false false false
+      _ _ _ _ _ _ _ _ _ _ _ _ _ (cycle_start_of w)
       (is_low (level_at w WRITE)) answer_not_high_in all.0
       fall.0
-      (starts_between-stays all.1 all.2) (closes_between-stays all.1 all.2) (rises_between-stays DS0 all.1)
-      (rises_between-stays DS1 all.2) (falls_between-stays DS0 all.1)
-      (falls_between-stays DS1 all.2) (falls_between-stays DTACK all.3) (falls_between-stays BERR all.4)
-      (rises_between-stays DTACK all.3) (rises_between-stays BERR all.4) fall.1
+      (starts_between-stays v w all.1 all.2) (closes_between-stays v w all.1 all.2) (rises_between-stays v w DS0 all.1)
+      (rises_between-stays v w DS1 all.2) (falls_between-stays v w DS0 all.1)
+      (falls_between-stays v w DS1 all.2) (falls_between-stays v w DTACK all.3) (falls_between-stays v w BERR all.4)
+      (rises_between-stays v w DTACK all.3) (rises_between-stays v w BERR all.4) fall.1
 
   -- the edges of the strobes and of a rise of AS* between the levels
   abbrev pub strobes_here : Edges
@@ -261,5 +166,6 @@ module _ (v w : Levels) where
       (rises_between v w DS1) (falls_between v w DS0) (falls_between v w DS1) _ _ _ _ _ (cycle_start_of w)
       (is_low (level_at w WRITE)) answer_not_high_in low.0
       (answer_not_high-none (starts_between v w) (is_high (level_at v DTACK)) (is_high (level_at v BERR))
-      (is_high (level_at w DTACK)) (is_high (level_at w BERR)) DTACK BERR all.3) (falls_between-stays DTACK all.1)
-      (falls_between-stays BERR all.2) (rises_between-stays DTACK all.1) (rises_between-stays BERR all.2) low.1
+      (is_high (level_at w DTACK)) (is_high (level_at w BERR)) DTACK BERR all.3) (falls_between-stays v w DTACK all.1)
+      (falls_between-stays v w BERR all.2) (rises_between-stays v w DTACK all.1) (rises_between-stays v w BERR all.2)
+      low.1

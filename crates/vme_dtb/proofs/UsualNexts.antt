@@ -29,9 +29,9 @@ use Rattle.vme_dtb.specs.UsualSteps.{is_answer_alone, strobes_break_rule, is_sta
 use Rattle.vme_dtb.specs.declared.cycle.CyclePhase.{CyclePhase}
 use Rattle.vme_dtb.specs.declared.memory.HandshakeMemory.{HandshakeMemory}
 use Rattle.vme_dtb.proofs.Faults.{first_of_faults-none, fault_if-not_applied, cycle_fault-no_answer, fault_if-none}
-use Rattle.vme_dtb.proofs.StillSteps.{and-five_parts}
-use Rattle.vme_dtb.proofs.UsualEdges.{and-four_parts, answer_edges, answer_edges-between, falls_between-stays}
-use Rattle.vme_dtb.proofs.UsualEdges.{starts_between-stays, ready_edges, ready_edges-between}
+use Rattle.vme_dtb.proofs.StillSteps.{and-five_parts, falls_between-stays, starts_between-stays}
+use Rattle.vme_dtb.proofs.UsualEdges.{and-four_parts, answer_edges, answer_edges-between}
+use Rattle.vme_dtb.proofs.UsualEdges.{ready_edges, ready_edges-between}
 use Rattle.vme_dtb.proofs.UsualEdges.{rises-not_falls, start_edges, start_edges-between, strobes_here-between}
 use Rattle.vme_dtb.proofs.UsualEdges.{strobes_here}
 
