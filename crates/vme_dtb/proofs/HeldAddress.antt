@@ -5,7 +5,7 @@ use Rattle.std.proofs.Common.{arith, cond, inl, inr, ◌⊎◌, length, lit<, su
 use Rattle.std.specs.Prelude.{Option, None, Some, slice_get, unwrap_or, option_map}
 use Rattle.std.specs.Option.{option_or}
 use Rattle.std.proofs.lemmas.Option.{slice_get_past}
-use Rattle.std.proofs.lemmas.Bool.{and_parts, not-true, cases_lt}
+use Rattle.std.proofs.lemmas.Bool.{and_parts, not-true, cases_lt, not-false}
 use Rattle.vme_trace.specs.Instants.{any, least, none}
 use Rattle.vme_trace.specs.LineNumbers.{line_count, AS, has_line}
 use Rattle.vme_trace.specs.Cycle.{is_needed, is_within, needs_of}
@@ -34,6 +34,7 @@ use Rattle.vme_dtb.proofs.ChangedLines.{is_changed-edge, same_level-refl}
 use Rattle.vme_dtb.proofs.Needed.{needs_of-below, needs_of-same}
 use Rattle.vme_dtb.proofs.Lasting.{any-and, none-shorter}
 use Rattle.vme_dtb.proofs.StabilityMeaning.{Holds, holds_address, keeps_address-any}
+use Rattle.vme_dtb.proofs.StillSteps.{same_level-equal}
 
 -- if `option_or` of two options is none, both are
 option_or-none_parts : {A : Type 0} (a b : Option A) → option_or a b ≡ None → (a ≡ None) × (b ≡ None)
@@ -44,18 +45,6 @@ option_or-none_parts (Some x) b h = absurd (cc)
 option_map-none : {A B : Type 0} (f : A → B) (a : Option A) → option_map f a ≡ None → a ≡ None
 option_map-none f None h = refl
 option_map-none f (Some x) h = absurd (cc)
-
--- levels that the test finds the same are equal
-same_level-equal : (x y : Level) → not (same_level x y) ≡ false → y ≡ x
-same_level-equal Low Low h = refl
-same_level-equal Low High h = absurd (cc)
-same_level-equal Low Unknown h = absurd (cc)
-same_level-equal High Low h = absurd (cc)
-same_level-equal High High h = refl
-same_level-equal High Unknown h = absurd (cc)
-same_level-equal Unknown Low h = absurd (cc)
-same_level-equal Unknown High h = absurd (cc)
-same_level-equal Unknown Unknown h = refl
 
 -- an instant up to n + 1 is n + 1, or up to n
 last_or_before : (k n : ℕ) → k ≤ suc n → (k ≡ suc n) ⊎ (k ≤ n)
@@ -107,10 +96,11 @@ module _ (t : Trace) (stretch : Stretch) where
             (break_at t stretch stability_rules (suc n)) h).0 earlier
       ]
 
-  -- where no rule is broken, S1 isn't
-  rule_break-S1_none : (k : ℕ) → break_at t stretch stability_rules k ≡ None → rule_break t stretch k S1 ≡ None
+  -- where no rule is broken, neither S1 is, nor a rule after it
+  S1-none_parts : (k : ℕ) → break_at t stretch stability_rules k ≡ None → (rule_break t stretch k S1 ≡ None)
+      × (option_or (rule_break t stretch k S2) (option_or (rule_break t stretch k S3) None) ≡ None)
   unfolding break_at
-  rule_break-S1_none k h =
+  S1-none_parts k h =
       let second = (option_or-none_parts (rule_break t stretch k U2) (option_or (rule_break t stretch k U3)
       (option_or (rule_break t stretch k U4) (option_or (rule_break t stretch k S1)
       (option_or (rule_break t stretch k S2)
@@ -121,27 +111,13 @@ module _ (t : Trace) (stretch : Stretch) where
       None)))) second).1 in
       let fourth = (option_or-none_parts (rule_break t stretch k U4) (option_or (rule_break t stretch k S1)
       (option_or (rule_break t stretch k S2) (option_or (rule_break t stretch k S3) None))) third).1 in
-      (option_or-none_parts (rule_break t stretch k S1) (option_or (rule_break t stretch k S2)
-      (option_or (rule_break t stretch k S3) None))
-      fourth).0
+      option_or-none_parts (rule_break t stretch k S1) (option_or (rule_break t stretch k S2)
+      (option_or (rule_break t stretch k S3) None)) fourth
 
   -- where no rule is broken, S2 isn't
   pub rule_break-S2_none : (k : ℕ) → break_at t stretch stability_rules k ≡ None → rule_break t stretch k S2 ≡ None
-  unfolding break_at
-  rule_break-S2_none k h =
-      let second = (option_or-none_parts (rule_break t stretch k U2) (option_or (rule_break t stretch k U3)
-      (option_or (rule_break t stretch k U4) (option_or (rule_break t stretch k S1)
-      (option_or (rule_break t stretch k S2)
-      (option_or (rule_break t stretch k S3) None))))) h).1 in
-      let third = (option_or-none_parts (rule_break t stretch k U3) (option_or (rule_break t stretch k U4)
-      (option_or (rule_break t stretch k S1) (option_or (rule_break t stretch k S2)
-      (option_or (rule_break t stretch k S3)
-      None)))) second).1 in
-      let fourth = (option_or-none_parts (rule_break t stretch k U4) (option_or (rule_break t stretch k S1)
-      (option_or (rule_break t stretch k S2) (option_or (rule_break t stretch k S3) None))) third).1 in
-      let fifth = (option_or-none_parts (rule_break t stretch k S1) (option_or (rule_break t stretch k S2)
-      (option_or (rule_break t stretch k S3) None)) fourth).1 in
-      (option_or-none_parts (rule_break t stretch k S2) (option_or (rule_break t stretch k S3) None) fifth).0
+  rule_break-S2_none k h = (option_or-none_parts (rule_break t stretch k S2)
+      (option_or (rule_break t stretch k S3) None) (S1-none_parts k h).1).0
 
   -- if there is no break before n + 1, there is none before n and none at n
   pub break_before-none_parts : (n : ℕ) → break_before t stretch stability_rules (suc n) ≡ None
@@ -206,7 +182,7 @@ module _ (t : Trace) (stretch : Stretch) where
     unfolding breaks is_broken
     has_edge-held k l from to needed small =
         has_edge-off (is_judged stretch (suc k)) (has_line t.opening.slots l) (has_edge t l (suc k)) _
-        (breaks-S1_none (suc k) (rule_break-S1_none (suc k) (break_at-none_before n (suc k) unbroken to)) l
+        (breaks-S1_none (suc k) (S1-none_parts (suc k) (break_at-none_before n (suc k) unbroken to)).0 l
         (omega arith))
         (is_judged-holds stretch (suc k) (omega arith) (omega arith)) (bus_line_exists t.opening.slots l (omega arith))
         (any-holds (λ j. holds_address t stretch (suc k) j && is_needed (levels_at t j) l) (stretch.start + 1) (suc k) i
@@ -217,7 +193,8 @@ module _ (t : Trace) (stretch : Stretch) where
         ≡ level_at (levels_at t k) l
     unfolding has_edge
     level_at-no_edge k l h = same_level-equal (level_at (levels_at t k) l) (level_at (levels_at t (suc k)) l)
-        (rw (suc-sub-one k) at h)
+        (not-false (same_level (level_at (levels_at t k) l) (level_at (levels_at t (suc k)) l))
+        (rw (suc-sub-one k) at h))
 
     -- a line below 45 that the cycle needs has, at each instant up to n, the level of its start
     level_at-held : (k l : ℕ) → i ≤ k → k ≤ n → is_needed (levels_at t i) l ≡ true → l < 45 → level_at (levels_at t k) l

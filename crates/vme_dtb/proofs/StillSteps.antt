@@ -265,9 +265,9 @@ module _ (t : Trace) (stretch : Stretch) (n : ℕ) (m : HandshakeMemory) (holds 
       (tracked-still v w still m.transfer ∙ transfer-phase_kept m.transfer holds.transfer)
       (ap (λ o. cond (is_some o) (after_answer m.cycle (is_writing e)) m.cycle) none)
       (may_rise-still (is_low (level_at w DTACK)) (is_low (level_at v DTACK)) _ m.dtack_may_rise
-      (ap is_low (level-stays v w DTACK kept.3)) holds.dtack) (may_rise-still (is_low (level_at w BERR)) (is_low (level_at v BERR)) _ m.berr_may_rise
-      (ap is_low (level-stays v w BERR kept.4))
-      holds.berr))
+      (ap is_low (level-stays v w DTACK kept.3)) holds.dtack)
+      (may_rise-still (is_low (level_at w BERR)) (is_low (level_at v BERR)) _ m.berr_may_rise
+      (ap is_low (level-stays v w BERR kept.4)) holds.berr))
       (option_or-none (handshake_fault m e (absent_edges u))
       (cycle_fault m.cycle (is_writing e) (answer_in e (absent_edges u)))
       (first_of_faults-none (strobe_faults m e (absent_edges u)) (
