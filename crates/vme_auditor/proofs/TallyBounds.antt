@@ -67,6 +67,46 @@ Fits-more r t c m r' t' c' m' d w p q u v f =
       served = f.served;
     }
 
+-- counts within bounds whose cycles are others are within bounds, with c' cycles of each class, if the cycles are
+Fits-cycles : (r t c m c' : ℕ) (d : Counts) (w : Option StartedTransfer) (single block free acknowledge : ℕ)
+    → Fits r t c m d w → single ≤ c' → block ≤ c' → free ≤ c' → acknowledge ≤ c'
+    → Fits r t c' m (record d { single = single; block = block; free = free; acknowledge = acknowledge }) w
+Fits-cycles r t c m c' d w single block free acknowledge f p q u v =
+    record {
+      resets = f.resets;
+      tenures = f.tenures;
+      single = p;
+      block = q;
+      free = u;
+      acknowledge = v;
+      moved = f.moved;
+      served = f.served;
+    }
+
+-- counts within bounds whose transfers are others are within bounds, with m' transfers, if the transfers are, where x is
+-- the transfer that waits
+Fits-transfers : (r t c m m' : ℕ) (d : Counts) (w x : Option StartedTransfer)
+    (reads writes pending by_dtack by_berr : ℕ) → Fits r t c m d w → reads + writes ≤ m'
+    → pending + by_dtack + by_berr + waiting_count x ≤ reads + writes
+    → Fits r t c m' (record d {
+      reads = reads;
+      writes = writes;
+      pending = pending;
+      by_dtack = by_dtack;
+      by_berr = by_berr;
+    }) x
+Fits-transfers r t c m m' d w x reads writes pending by_dtack by_berr f p q =
+    record {
+      resets = f.resets;
+      tenures = f.tenures;
+      single = f.single;
+      block = f.block;
+      free = f.free;
+      acknowledge = f.acknowledge;
+      moved = p;
+      served = q;
+    }
+
 -- the bounds are r resets, t tenures, c cycles of each class and m transfers
 module _ (r t c m : ℕ) where
   -- the tally after the waiting transfer is left without an answer is exact
@@ -82,16 +122,8 @@ module _ (r t c m : ℕ) where
           rw e at f.served in
           record {
             same = rw (counted-suc a.counts.pending (omega (arith, f.moved))) refl;
-            fits = record {
-              resets = f.resets;
-              tenures = f.tenures;
-              single = f.single;
-              block = f.block;
-              free = f.free;
-              acknowledge = f.acknowledge;
-              moved = f.moved;
-              served = omega arith;
-            };
+            fits = Fits-transfers r t c m m a.counts a.waiting None a.counts.reads a.counts.writes
+                (suc a.counts.pending) a.counts.by_dtack a.counts.by_berr f f.moved (omega arith);
           }
 
   -- the tally after a break is exact
@@ -176,49 +208,17 @@ module _ (r t c m : ℕ) where
   of_class-fits : (d : Counts) (w : Option StartedTransfer) (k : Class) → Fits r t c m d w
       → Fits r t (suc c) m (of_class suc d k) w
   of_class-fits d w class.S f =
-      record {
-        resets = f.resets;
-        tenures = f.tenures;
-        single = omega (arith, f.single);
-        block = omega (arith, f.block);
-        free = omega (arith, f.free);
-        acknowledge = omega (arith, f.acknowledge);
-        moved = f.moved;
-        served = f.served;
-      }
+      Fits-cycles r t c m (suc c) d w (suc d.single) d.block d.free d.acknowledge f (omega (arith, f.single))
+      (omega (arith, f.block)) (omega (arith, f.free)) (omega (arith, f.acknowledge))
   of_class-fits d w class.K f =
-      record {
-        resets = f.resets;
-        tenures = f.tenures;
-        single = omega (arith, f.single);
-        block = omega (arith, f.block);
-        free = omega (arith, f.free);
-        acknowledge = omega (arith, f.acknowledge);
-        moved = f.moved;
-        served = f.served;
-      }
+      Fits-cycles r t c m (suc c) d w d.single (suc d.block) d.free d.acknowledge f (omega (arith, f.single))
+      (omega (arith, f.block)) (omega (arith, f.free)) (omega (arith, f.acknowledge))
   of_class-fits d w class.F f =
-      record {
-        resets = f.resets;
-        tenures = f.tenures;
-        single = omega (arith, f.single);
-        block = omega (arith, f.block);
-        free = omega (arith, f.free);
-        acknowledge = omega (arith, f.acknowledge);
-        moved = f.moved;
-        served = f.served;
-      }
+      Fits-cycles r t c m (suc c) d w d.single d.block (suc d.free) d.acknowledge f (omega (arith, f.single))
+      (omega (arith, f.block)) (omega (arith, f.free)) (omega (arith, f.acknowledge))
   of_class-fits d w class.I f =
-      record {
-        resets = f.resets;
-        tenures = f.tenures;
-        single = omega (arith, f.single);
-        block = omega (arith, f.block);
-        free = omega (arith, f.free);
-        acknowledge = omega (arith, f.acknowledge);
-        moved = f.moved;
-        served = f.served;
-      }
+      Fits-cycles r t c m (suc c) d w d.single d.block d.free (suc d.acknowledge) f (omega (arith, f.single))
+      (omega (arith, f.block)) (omega (arith, f.free)) (omega (arith, f.acknowledge))
 
   -- the tally after a cycle begins, if one does, is exact, with one more cycle as bound
   cycle_exact : (o : Option CycleStart) (a b : Tally) → IsExact r t c m a b → c < 2 ^ 64 - 1
@@ -250,27 +250,11 @@ module _ (r t c m : ℕ) where
   of_direction-fits : (d : Counts) (s : StartedTransfer) (write : Bool) → Fits r t c m d None
       → Fits r t c (suc m) (of_direction suc d write) (Some s)
   of_direction-fits d s true f =
-      record {
-        resets = f.resets;
-        tenures = f.tenures;
-        single = f.single;
-        block = f.block;
-        free = f.free;
-        acknowledge = f.acknowledge;
-        moved = omega (arith, f.moved);
-        served = omega (arith, f.served);
-      }
+      Fits-transfers r t c m (suc m) d None (Some s) d.reads (suc d.writes) d.pending d.by_dtack d.by_berr f
+      (omega (arith, f.moved)) (omega (arith, f.served))
   of_direction-fits d s false f =
-      record {
-        resets = f.resets;
-        tenures = f.tenures;
-        single = f.single;
-        block = f.block;
-        free = f.free;
-        acknowledge = f.acknowledge;
-        moved = omega (arith, f.moved);
-        served = omega (arith, f.served);
-      }
+      Fits-transfers r t c m (suc m) d None (Some s) (suc d.reads) d.writes d.pending d.by_dtack d.by_berr f
+      (omega (arith, f.moved)) (omega (arith, f.served))
 
   -- no transfer waits after the waiting one is left without an answer
   none_waits : (a : Tally) → (to_pending suc a).waiting ≡ None
@@ -320,31 +304,15 @@ module _ (r t c m : ℕ) where
       record {
         same = ap (λ n. record b { waiting = None; counts = record b.counts { by_dtack = n } })
             (counted-suc b.counts.by_dtack (omega (arith, f.served, f.moved)));
-        fits = record {
-          resets = f.resets;
-          tenures = f.tenures;
-          single = f.single;
-          block = f.block;
-          free = f.free;
-          acknowledge = f.acknowledge;
-          moved = f.moved;
-          served = omega (arith, f.served);
-        };
+        fits = Fits-transfers r t c m m b.counts (Some s) None b.counts.reads b.counts.writes b.counts.pending
+            (suc b.counts.by_dtack) b.counts.by_berr f f.moved (omega (arith, f.served));
       }
   line_exact b s false f few =
       record {
         same = ap (λ n. record b { waiting = None; counts = record b.counts { by_berr = n } })
             (counted-suc b.counts.by_berr (omega (arith, f.served, f.moved)));
-        fits = record {
-          resets = f.resets;
-          tenures = f.tenures;
-          single = f.single;
-          block = f.block;
-          free = f.free;
-          acknowledge = f.acknowledge;
-          moved = f.moved;
-          served = omega (arith, f.served);
-        };
+        fits = Fits-transfers r t c m m b.counts (Some s) None b.counts.reads b.counts.writes b.counts.pending
+            b.counts.by_dtack (suc b.counts.by_berr) f f.moved (omega (arith, f.served));
       }
 
   -- the tally after the waiting transfer, if there is one, is answered by `line` is exact
