@@ -83,8 +83,8 @@ Fits-cycles r t c m c' d w single block free acknowledge f p q u v =
       served = f.served;
     }
 
--- counts within bounds whose transfers are others are within bounds, with m' transfers, if the transfers are, where x is
--- the transfer that waits
+-- counts within bounds whose transfers are others are within bounds, with m' transfers, if the transfers are; x is the
+-- transfer that waits
 Fits-transfers : (r t c m m' : ℕ) (d : Counts) (w x : Option StartedTransfer)
     (reads writes pending by_dtack by_berr : ℕ) → Fits r t c m d w → reads + writes ≤ m'
     → pending + by_dtack + by_berr + waiting_count x ≤ reads + writes

@@ -43,26 +43,35 @@ length-entries_without_marks (e ∷ es) =
       length-append (first_break_bytes e.first_break) (flat_map (entry_bytes false) es),
     )
 
+-- a table writes an entry for each memory but one
+length-written : (listing : Bool) (memories steps : ℕ) (t : TableValue) → FitsTable listing memories steps t
+    → suc (length (written t.entries)) ≡ memories
+length-written listing memories steps t fits =
+    let front = fits.ended.0 in
+    let back = fits.ended.1 in
+    let es-are : written t.entries ≡ front ++ back =
+    ap written fits.ended.3 ∙ written-is front back fits.ended.2 in
+    let many : length t.entries ≡ length front + suc (length back) =
+    ap (λ (es : List TableEntry). length es) fits.ended.3 ∙ length-append front (stays ∷ back) in
+    omega (
+      arith,
+      ap (λ (es : List TableEntry). length es) es-are,
+      length-append front back,
+      many,
+      fits.as_many,
+    )
+
 -- a table of a part without marks has at most 19 bytes for each memory but one
 pub length-table_without_marks : (memories steps : ℕ) (t : TableValue) → 3 ≤ memories → FitsTable false memories steps t
     → length (table_bytes false t) ≤ 19 * (memories - 1)
 unfolding table_bytes
 length-table_without_marks memories steps t some fits =
-    let front = fits.ended.0 in
-    let back = fits.ended.1 in
     let text = flat_map (entry_bytes false) in
-    let es-are : written t.entries ≡ front ++ back =
-    ap written fits.ended.3 ∙ written-is front back fits.ended.2 in
-    let many : length t.entries ≡ length front + suc (length back) =
-    ap (λ (es : List TableEntry). length es) fits.ended.3 ∙ length-append front (stays ∷ back) in
     let few : length (text (written t.entries)) ≤ 19 * (memories - 1) =
     omega (
       arith,
       length-entries_without_marks (written t.entries),
-      ap (λ (es : List TableEntry). length es) es-are,
-      length-append front back,
-      many,
-      fits.as_many,
+      length-written false memories steps t fits,
     ) in
     let none : length (flat_map node_bytes t.nodes) ≡ 0 =
     ap (λ (ns : List NodeValue). length (flat_map node_bytes ns)) fits.listed in
@@ -93,20 +102,57 @@ length-times_bytes (Some t) =
       length-append (to_le_bytes w64 t.first) (to_le_bytes w64 t.last),
     )
 
--- the tables of a segment of a part without marks have at most 3,895 bytes
-length-tables_without_marks : (s : SegmentValue) → FitsSegment false s → length (tables_bytes false s) ≤ 3895
-length-tables_without_marks s fits =
-    let a = table_bytes false s.known in
-    let b = table_bytes false s.handshake in
-    let c = table_bytes false s.stability in
-    let d = table_bytes false s.grant in
-    let e = table_bytes false s.acknowledge in
+-- a segment has at most 139 bytes before its tables
+length-before_tables : (listing : Bool) (s : SegmentValue)
+    → length (segment_bytes listing s) ≤ 139 + length (tables_bytes listing s)
+unfolding segment_bytes
+length-before_tables listing s =
+    let ti = times_bytes s.times in
+    let tb = tables_bytes listing s in
+    let head : length (head_bytes s) ≡ 17 =
+    length-append (to_le_bytes w64 s.first) (s.order ∷ to_le_bytes w64 s.steps) in
+    let lines : length (lines_bytes s) ≡ 97 =
+    omega (
+      arith,
+      length-append (levels_bytes s.opening) (levels_bytes s.left),
+      length-levels_bytes s.opening,
+      length-levels_bytes s.left,
+    ) in
+    omega (
+      arith,
+      length-append (head_bytes s) (lines_bytes s ++ (ti ++ tb)),
+      length-append (lines_bytes s) (ti ++ tb),
+      length-append ti tb,
+      head,
+      lines,
+      length-times_bytes s.times,
+    )
+
+-- the tables of a segment have the bytes of each
+length-tables_bytes : (listing : Bool) (s : SegmentValue) → length (tables_bytes listing s)
+    ≡ length (table_bytes listing s.known) + (length (table_bytes listing s.handshake)
+    + (length (table_bytes listing s.stability) + (length (table_bytes listing s.grant)
+    + length (table_bytes listing s.acknowledge))))
+length-tables_bytes listing s =
+    let a = table_bytes listing s.known in
+    let b = table_bytes listing s.handshake in
+    let c = table_bytes listing s.stability in
+    let d = table_bytes listing s.grant in
+    let e = table_bytes listing s.acknowledge in
     omega (
       arith,
       length-append a (b ++ (c ++ (d ++ e))),
       length-append b (c ++ (d ++ e)),
       length-append c (d ++ e),
       length-append d e,
+    )
+
+-- the tables of a segment of a part without marks have at most 3,895 bytes
+length-tables_without_marks : (s : SegmentValue) → FitsSegment false s → length (tables_bytes false s) ≤ 3895
+length-tables_without_marks s fits =
+    omega (
+      arith,
+      length-tables_bytes false s,
       length-table_without_marks 4 s.steps s.known (omega arith) fits.known,
       length-table_without_marks 147 s.steps s.handshake (omega arith) fits.handshake,
       length-table_without_marks 13 s.steps s.stability (omega arith) fits.stability,
@@ -116,31 +162,8 @@ length-tables_without_marks s fits =
 
 -- a segment of a part without marks has at most 4,034 bytes
 pub length-segment_without_marks : (s : SegmentValue) → FitsSegment false s → length (segment_bytes false s) ≤ 4034
-unfolding segment_bytes
 length-segment_without_marks s fits =
-    let ti = times_bytes s.times in
-    let tb = tables_bytes false s in
-    let head : length (head_bytes s) ≡ 17 =
-    length-append (to_le_bytes w64 s.first) (s.order ∷ to_le_bytes w64 s.steps) in
-    let lines : length (lines_bytes s) ≡ 97 =
-    omega (
-      arith,
-      length-append (levels_bytes s.opening) (levels_bytes s.left),
-      length-levels_bytes s.opening,
-      length-levels_bytes
-          s.left,
-    )
-    in
-    omega (
-      arith,
-      length-append (head_bytes s) (lines_bytes s ++ (ti ++ tb)),
-      length-append (lines_bytes s) (ti ++ tb),
-      length-append ti tb,
-      head,
-      lines,
-      length-times_bytes s.times,
-      length-tables_without_marks s fits,
-    )
+    omega (arith, length-before_tables false s, length-tables_without_marks s fits)
 
 -- segments of a part without marks have at most 4,034 bytes each
 length-segments_without_marks : (before : Option ℕ) (ss : List SegmentValue) → FitSegments false before ss
@@ -271,22 +294,13 @@ length-table_with_marks : (memories steps : ℕ) (t : TableValue) → 3 ≤ memo
     → length (table_bytes true t) ≤ 4 + 22 * (memories - 1) + 26 * length t.nodes + 15 * marks_in_nodes t.nodes
 unfolding table_bytes
 length-table_with_marks memories steps t some fits =
-    let front = fits.ended.0 in
-    let back = fits.ended.1 in
     let text = flat_map (entry_bytes true) (written t.entries) in
     let nodes = flat_map node_bytes t.nodes in
-    let es-are : written t.entries ≡ front ++ back =
-    ap written fits.ended.3 ∙ written-is front back fits.ended.2 in
-    let many : length t.entries ≡ length front + suc (length back) =
-    ap (λ (es : List TableEntry). length es) fits.ended.3 ∙ length-append front (stays ∷ back) in
     let few : length text ≤ 22 * (memories - 1) =
     omega (
       arith,
       length-entries_with_marks (written t.entries),
-      ap (λ (es : List TableEntry). length es) es-are,
-      length-append front back,
-      many,
-      fits.as_many,
+      length-written true memories steps t fits,
     ) in
     omega (
       arith,
@@ -300,48 +314,14 @@ length-table_with_marks memories steps t some fits =
 length-tables_with_marks : (s : SegmentValue) → FitsSegment true s
     → length (tables_bytes true s) ≤ 4530 + 26 * nodes_in_segment s + 15 * marks_in_segment s
 length-tables_with_marks s fits =
-    let a = table_bytes true s.known in
-    let b = table_bytes true s.handshake in
-    let c = table_bytes true s.stability in
-    let d = table_bytes true s.grant in
-    let e = table_bytes true s.acknowledge in
     omega (
       arith,
-      length-append a (b ++ (c ++ (d ++ e))),
-      length-append b (c ++ (d ++ e)),
-      length-append c (d ++ e),
-      length-append d e,
+      length-tables_bytes true s,
       length-table_with_marks 4 s.steps s.known (omega arith) fits.known,
       length-table_with_marks 147 s.steps s.handshake (omega arith) fits.handshake,
       length-table_with_marks 13 s.steps s.stability (omega arith) fits.stability,
       length-table_with_marks 35 s.steps s.grant (omega arith) fits.grant,
       length-table_with_marks 11 s.steps s.acknowledge (omega arith) fits.acknowledge,
-    )
-
--- a segment has at most 139 bytes before its tables
-length-before_tables : (listing : Bool) (s : SegmentValue)
-    → length (segment_bytes listing s) ≤ 139 + length (tables_bytes listing s)
-unfolding segment_bytes
-length-before_tables listing s =
-    let ti = times_bytes s.times in
-    let tb = tables_bytes listing s in
-    let head : length (head_bytes s) ≡ 17 =
-    length-append (to_le_bytes w64 s.first) (s.order ∷ to_le_bytes w64 s.steps) in
-    let lines : length (lines_bytes s) ≡ 97 =
-    omega (
-      arith,
-      length-append (levels_bytes s.opening) (levels_bytes s.left),
-      length-levels_bytes s.opening,
-      length-levels_bytes s.left,
-    ) in
-    omega (
-      arith,
-      length-append (head_bytes s) (lines_bytes s ++ (ti ++ tb)),
-      length-append (lines_bytes s) (ti ++ tb),
-      length-append ti tb,
-      head,
-      lines,
-      length-times_bytes s.times,
     )
 
 -- segments of a part with marks have at most 4,669 bytes each, 26 for each node and 15 for each mark
