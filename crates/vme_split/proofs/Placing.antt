@@ -4,7 +4,10 @@ use Rattle.std.proofs.Common.{◌++◌, map, flat_map, Contains, inl, inr, ◌�
 use Rattle.std.specs.Prelude.{Option, None, Some, MatchOption, IfSome}
 use Rattle.std.proofs.lemmas.List.{map-append}
 use Rattle.std.proofs.lemmas.List.Elements.{Contains-append_left, Contains-append_right, Contains-append_cases}
+use Rattle.vme_trace.specs.declared.data.Lanes.{Lanes}
+use Rattle.vme_listing.specs.declared.row.AnswerLine.{AnswerLine}
 use Rattle.vme_listing.specs.declared.row.AnswerLine.TheVariants.{Dtack, Berr}
+use Rattle.vme_listing.specs.declared.row.Direction.{Direction}
 use Rattle.vme_listing.specs.declared.row.Row.{Row}
 use Rattle.vme_listing.specs.declared.row.Row.TheVariants.{Start, Reset, OpenTenure, Tenure, AddressedCycle, FreeCycle}
 use Rattle.vme_listing.specs.declared.row.Row.TheVariants.{InterruptCycle, Transfer, PendingTransfer}
@@ -158,21 +161,29 @@ module _ (all : List Row) (cycles : List Interval) (answered : (r : Row) → Con
         × Covers (interval x.cycle end) x.answer) → IsPlaced (flat_map transfer_in all) cycles x
     IsPlaced-transfer x close there k = ((close, there, k.0), k.1)
 
-    -- the transfer of a row that DTACK answers is placed
-    IsPlaced-dtack_row : (r : Row) (x : AnsweredTransfer) → Contains all r → Contains (answered_by_dtack r) x
-        → IsPlaced (flat_map transfer_in all) cycles x
-    IsPlaced-dtack_row (Transfer direction Dtack start cycle answer close lanes) x there c = elim
+    -- the transfer of a row that `line` answers is placed
+    IsPlaced-answered_row : (direction : Direction) (line : AnswerLine) (start cycle answer : ℕ) (close : Option ℕ)
+        (lanes : Option Lanes) (x : AnsweredTransfer)
+        → Contains all (Transfer direction line start cycle answer close lanes)
+        → Contains (answered_transfer start cycle answer ∷ []) x → IsPlaced (flat_map transfer_in all) cycles x
+    IsPlaced-answered_row direction line start cycle answer close lanes x there c = elim
         (Contains-cons_cases (answered_transfer start cycle answer) [] x c) [
           | inl is ↦ subst (IsPlaced (flat_map transfer_in all) cycles) is (IsPlaced-transfer
               (answered_transfer start cycle answer) close
-              (Contains-flat_map transfer_in all (Transfer direction Dtack start cycle answer close lanes)
+              (Contains-flat_map transfer_in all (Transfer direction line start cycle answer close lanes)
               (interval start close)
               there
               (Contains-first (interval start close) []))
-              (answered (Transfer direction Dtack start cycle answer close lanes)
+              (answered (Transfer direction line start cycle answer close lanes)
               there))
           | inr later ↦ absurd (Contains-nil x later)
         ]
+
+    -- the transfer of a row that DTACK answers is placed
+    IsPlaced-dtack_row : (r : Row) (x : AnsweredTransfer) → Contains all r → Contains (answered_by_dtack r) x
+        → IsPlaced (flat_map transfer_in all) cycles x
+    IsPlaced-dtack_row (Transfer direction Dtack start cycle answer close lanes) x there c =
+        IsPlaced-answered_row direction Dtack start cycle answer close lanes x there c
     IsPlaced-dtack_row (Transfer direction Berr start cycle answer close lanes) x there c = absurd (Contains-nil x c)
     IsPlaced-dtack_row (Start i) x there c = absurd (Contains-nil x c)
     IsPlaced-dtack_row (Reset i) x there c = absurd (Contains-nil x c)
@@ -187,18 +198,8 @@ module _ (all : List Row) (cycles : List Interval) (answered : (r : Row) → Con
     -- the transfer of a row that BERR answers is placed
     IsPlaced-berr_row : (r : Row) (x : AnsweredTransfer) → Contains all r → Contains (answered_by_berr r) x
         → IsPlaced (flat_map transfer_in all) cycles x
-    IsPlaced-berr_row (Transfer direction Berr start cycle answer close lanes) x there c = elim
-        (Contains-cons_cases (answered_transfer start cycle answer) [] x c) [
-          | inl is ↦ subst (IsPlaced (flat_map transfer_in all) cycles) is (IsPlaced-transfer
-              (answered_transfer start cycle answer) close
-              (Contains-flat_map transfer_in all (Transfer direction Berr start cycle answer close lanes)
-              (interval start close)
-              there
-              (Contains-first (interval start close) []))
-              (answered (Transfer direction Berr start cycle answer close lanes)
-              there))
-          | inr later ↦ absurd (Contains-nil x later)
-        ]
+    IsPlaced-berr_row (Transfer direction Berr start cycle answer close lanes) x there c =
+        IsPlaced-answered_row direction Berr start cycle answer close lanes x there c
     IsPlaced-berr_row (Transfer direction Dtack start cycle answer close lanes) x there c = absurd (Contains-nil x c)
     IsPlaced-berr_row (Start i) x there c = absurd (Contains-nil x c)
     IsPlaced-berr_row (Reset i) x there c = absurd (Contains-nil x c)
