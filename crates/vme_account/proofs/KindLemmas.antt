@@ -17,102 +17,68 @@ use Rattle.vme_account.specs.declared.row_kind.RowKind.TheVariants as kind
 abbrev pub weight : RowKind → Row → ℕ
 weight k r = one_if (is_of k r)
 
+-- what holds of each kind holds of any
+by_kind : (P : RowKind → Type 0) → P kind.OpenTenures → ((level slot : ℕ) → P (kind.Tenures level slot))
+    → P kind.SingleCycles → P kind.BlockCycles → P kind.FreeCycles → P kind.InterruptCycles → P kind.AnsweredReads
+    → P kind.AnsweredWrites → P kind.AnsweredByDtack → P kind.AnsweredByBerr → P kind.PendingTransfers → P kind.Resets
+    → (k : RowKind) → P k
+by_kind P a b c d e f g h i j l m kind.OpenTenures = a
+by_kind P a b c d e f g h i j l m (kind.Tenures level slot) = b level slot
+by_kind P a b c d e f g h i j l m kind.SingleCycles = c
+by_kind P a b c d e f g h i j l m kind.BlockCycles = d
+by_kind P a b c d e f g h i j l m kind.FreeCycles = e
+by_kind P a b c d e f g h i j l m kind.InterruptCycles = f
+by_kind P a b c d e f g h i j l m kind.AnsweredReads = g
+by_kind P a b c d e f g h i j l m kind.AnsweredWrites = h
+by_kind P a b c d e f g h i j l m kind.AnsweredByDtack = i
+by_kind P a b c d e f g h i j l m kind.AnsweredByBerr = j
+by_kind P a b c d e f g h i j l m kind.PendingTransfers = l
+by_kind P a b c d e f g h i j l m kind.Resets = m
+
 -- the kinds of the row of an open tenure don't depend on its end
 weight-open_tenure : (k : RowKind) (i : ℕ) (e : Option ℕ) → weight k (row.OpenTenure i e)
     ≡ weight k (row.OpenTenure i None)
-weight-open_tenure kind.OpenTenures i e = refl
-weight-open_tenure (kind.Tenures level slot) i e = refl
-weight-open_tenure kind.SingleCycles i e = refl
-weight-open_tenure kind.BlockCycles i e = refl
-weight-open_tenure kind.FreeCycles i e = refl
-weight-open_tenure kind.InterruptCycles i e = refl
-weight-open_tenure kind.AnsweredReads i e = refl
-weight-open_tenure kind.AnsweredWrites i e = refl
-weight-open_tenure kind.AnsweredByDtack i e = refl
-weight-open_tenure kind.AnsweredByBerr i e = refl
-weight-open_tenure kind.PendingTransfers i e = refl
-weight-open_tenure kind.Resets i e = refl
+weight-open_tenure k i e =
+    by_kind (λ k. weight k (row.OpenTenure i e) ≡ weight k (row.OpenTenure i None))
+    refl (λ level slot. refl) refl refl refl refl refl refl refl refl refl refl k
 
 -- the kinds of the row of a tenure don't depend on its end
 weight-tenure : (k : RowKind) (i granted taken : ℕ) (e : Option ℕ)
     → weight k (row.Tenure i granted taken e) ≡ weight k (row.Tenure i granted taken None)
-weight-tenure kind.OpenTenures i granted taken e = refl
-weight-tenure (kind.Tenures level slot) i granted taken e = refl
-weight-tenure kind.SingleCycles i granted taken e = refl
-weight-tenure kind.BlockCycles i granted taken e = refl
-weight-tenure kind.FreeCycles i granted taken e = refl
-weight-tenure kind.InterruptCycles i granted taken e = refl
-weight-tenure kind.AnsweredReads i granted taken e = refl
-weight-tenure kind.AnsweredWrites i granted taken e = refl
-weight-tenure kind.AnsweredByDtack i granted taken e = refl
-weight-tenure kind.AnsweredByBerr i granted taken e = refl
-weight-tenure kind.PendingTransfers i granted taken e = refl
-weight-tenure kind.Resets i granted taken e = refl
+weight-tenure k i granted taken e =
+    by_kind (λ k. weight k (row.Tenure i granted taken e) ≡ weight k (row.Tenure i granted taken None))
+    refl (λ level slot. refl) refl refl refl refl refl refl refl refl refl refl k
 
 -- the kinds of the row of a cycle with an address don't depend on its end
 weight-addressed_cycle : (k : RowKind) (i : ℕ) (c : Class) (modifier address : ℕ) (e : Option ℕ)
     → weight k (row.AddressedCycle i c modifier address e) ≡ weight k (row.AddressedCycle i c modifier address None)
-weight-addressed_cycle kind.OpenTenures i c modifier address e = refl
-weight-addressed_cycle (kind.Tenures level slot) i c modifier address e = refl
-weight-addressed_cycle kind.SingleCycles i c modifier address e = refl
-weight-addressed_cycle kind.BlockCycles i c modifier address e = refl
-weight-addressed_cycle kind.FreeCycles i c modifier address e = refl
-weight-addressed_cycle kind.InterruptCycles i c modifier address e = refl
-weight-addressed_cycle kind.AnsweredReads i c modifier address e = refl
-weight-addressed_cycle kind.AnsweredWrites i c modifier address e = refl
-weight-addressed_cycle kind.AnsweredByDtack i c modifier address e = refl
-weight-addressed_cycle kind.AnsweredByBerr i c modifier address e = refl
-weight-addressed_cycle kind.PendingTransfers i c modifier address e = refl
-weight-addressed_cycle kind.Resets i c modifier address e = refl
+weight-addressed_cycle k i c modifier address e =
+    by_kind (λ k. weight k (row.AddressedCycle i c modifier address e)
+    ≡ weight k (row.AddressedCycle i c modifier address None))
+    refl (λ level slot. refl) refl refl refl refl refl refl refl refl refl refl k
 
 -- the kinds of the row of a free cycle don't depend on its end
 weight-free_cycle : (k : RowKind) (i modifier : ℕ) (e : Option ℕ)
     → weight k (row.FreeCycle i modifier e) ≡ weight k (row.FreeCycle i modifier None)
-weight-free_cycle kind.OpenTenures i modifier e = refl
-weight-free_cycle (kind.Tenures level slot) i modifier e = refl
-weight-free_cycle kind.SingleCycles i modifier e = refl
-weight-free_cycle kind.BlockCycles i modifier e = refl
-weight-free_cycle kind.FreeCycles i modifier e = refl
-weight-free_cycle kind.InterruptCycles i modifier e = refl
-weight-free_cycle kind.AnsweredReads i modifier e = refl
-weight-free_cycle kind.AnsweredWrites i modifier e = refl
-weight-free_cycle kind.AnsweredByDtack i modifier e = refl
-weight-free_cycle kind.AnsweredByBerr i modifier e = refl
-weight-free_cycle kind.PendingTransfers i modifier e = refl
-weight-free_cycle kind.Resets i modifier e = refl
+weight-free_cycle k i modifier e =
+    by_kind (λ k. weight k (row.FreeCycle i modifier e) ≡ weight k (row.FreeCycle i modifier None))
+    refl (λ level slot. refl) refl refl refl refl refl refl refl refl refl refl k
 
 -- the kinds of the row of an interrupt acknowledge don't depend on its end
 weight-interrupt_cycle : (k : RowKind) (i asked : ℕ) (e : Option ℕ)
     → weight k (row.InterruptCycle i asked e) ≡ weight k (row.InterruptCycle i asked None)
-weight-interrupt_cycle kind.OpenTenures i asked e = refl
-weight-interrupt_cycle (kind.Tenures level slot) i asked e = refl
-weight-interrupt_cycle kind.SingleCycles i asked e = refl
-weight-interrupt_cycle kind.BlockCycles i asked e = refl
-weight-interrupt_cycle kind.FreeCycles i asked e = refl
-weight-interrupt_cycle kind.InterruptCycles i asked e = refl
-weight-interrupt_cycle kind.AnsweredReads i asked e = refl
-weight-interrupt_cycle kind.AnsweredWrites i asked e = refl
-weight-interrupt_cycle kind.AnsweredByDtack i asked e = refl
-weight-interrupt_cycle kind.AnsweredByBerr i asked e = refl
-weight-interrupt_cycle kind.PendingTransfers i asked e = refl
-weight-interrupt_cycle kind.Resets i asked e = refl
+weight-interrupt_cycle k i asked e =
+    by_kind (λ k. weight k (row.InterruptCycle i asked e) ≡ weight k (row.InterruptCycle i asked None))
+    refl (λ level slot. refl) refl refl refl refl refl refl refl refl refl refl k
 
 -- the kinds of the row of an answered transfer don't depend on its close
 weight-transfer : (k : RowKind) (i : ℕ) (d : Direction) (e : Option ℕ) (r cycle : ℕ) (a : TransferAnswer)
     → weight k (row.Transfer d (marked_line a.line) i cycle r e a.lanes)
     ≡ weight k (row.Transfer d (marked_line a.line) i cycle r None a.lanes)
-weight-transfer kind.OpenTenures i d e r cycle a = refl
-weight-transfer (kind.Tenures level slot) i d e r cycle a = refl
-weight-transfer kind.SingleCycles i d e r cycle a = refl
-weight-transfer kind.BlockCycles i d e r cycle a = refl
-weight-transfer kind.FreeCycles i d e r cycle a = refl
-weight-transfer kind.InterruptCycles i d e r cycle a = refl
-weight-transfer kind.AnsweredReads i d e r cycle a = refl
-weight-transfer kind.AnsweredWrites i d e r cycle a = refl
-weight-transfer kind.AnsweredByDtack i d e r cycle a = refl
-weight-transfer kind.AnsweredByBerr i d e r cycle a = refl
-weight-transfer kind.PendingTransfers i d e r cycle a = refl
-weight-transfer kind.Resets i d e r cycle a = refl
+weight-transfer k i d e r cycle a =
+    by_kind (λ k. weight k (row.Transfer d (marked_line a.line) i cycle r e a.lanes)
+    ≡ weight k (row.Transfer d (marked_line a.line) i cycle r None a.lanes))
+    refl (λ level slot. refl) refl refl refl refl refl refl refl refl refl refl k
 
 -- whether a row is of a kind doesn't depend on where the row ends
 pub IgnoresEnd-weight : (k : RowKind) → IgnoresEnd (weight k)

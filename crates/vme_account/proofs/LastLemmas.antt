@@ -204,43 +204,39 @@ module _ (t : Trace) (s i : ℕ) (le : s ≤ i) (v : Levels) (cs : List Change) 
   happens-between : (k : StepEvent) → happens t k (i + 1) ≡ happens_between v w k
   happens-between k = happens-next t i v w is_v is_w k
 
+  -- the moment noted of a line's event, which an unchanged line doesn't have, is the last one up to the next instant
+  edge-next : (event : ℕ → StepEvent) (was : List (Option Moment)) → length was ≡ line_count
+      → ((l : ℕ) → is_changed cs l ≡ false → happens_between v w (event l) ≡ false)
+      → ((l : ℕ) → l < line_count → get_or was l None ≡ moment t (greatest (happens t (event l)) (s + 1) (i + 1)))
+      → (l : ℕ) → l < line_count → get_or (noted (λ k. happens_between v w (event k)) m was cs) l None
+      ≡ moment t (greatest (happens t (event l)) (s + 1) (i + 1 + 1))
+  edge-next event was all unchanged before l less = by_test (happens_between v w (event l)) refl
+    where
+      by_change : (b : Bool) → is_changed cs l ≡ b → happens_between v w (event l) ≡ true → is_changed cs l ≡ true
+      by_change true c f = c
+      by_change false c f = absurd (cc (sym (unchanged l c) ∙ f))
+
+      by_test : (b : Bool) → happens_between v w (event l) ≡ b
+          → get_or (noted (λ k. happens_between v w (event k)) m was cs) l None
+          ≡ moment t (greatest (happens t (event l)) (s + 1) (i + 1 + 1))
+      by_test true f =
+          noted-changed (λ k. happens_between v w (event k)) m l f cs was (rw all less)
+          (by_change (is_changed cs l) refl f)
+          ∙ (ap (λ (x : Moment). Some x) is_m
+          ∙ sym (greatest-next t s i le (event l) true (happens-between (event l) ∙ f)))
+      by_test false f =
+          noted-other (λ k. happens_between v w (event k)) m l f cs was ∙ (before l less
+          ∙ sym (greatest-next t s i le (event l) false (happens-between (event l) ∙ f)))
+
   -- the moment noted of a line's fall is the last one up to the next instant
   falls-next : (l : ℕ) → l < line_count → get_or (noted (falls_shown v w) m e.falls cs) l None
       ≡ moment t (greatest (happens t (Falls l)) (s + 1) (i + 1 + 1))
-  falls-next l less = by_test (falls_shown v w l) refl
-    where
-      by_change : (b : Bool) → is_changed cs l ≡ b → falls_shown v w l ≡ true → is_changed cs l ≡ true
-      by_change true e f = e
-      by_change false e f = absurd (cc (sym (falls_shown-unchanged v cs l e) ∙ f))
-
-      by_test : (b : Bool) → falls_shown v w l ≡ b → get_or (noted (falls_shown v w) m e.falls cs) l None
-          ≡ moment t (greatest (happens t (Falls l)) (s + 1) (i + 1 + 1))
-      by_test true f =
-          noted-changed (falls_shown v w) m l f cs e.falls (rw last.all_falls less) (by_change (is_changed cs l) refl f)
-          ∙ (ap (λ (x : Moment). Some x) is_m
-          ∙ sym (greatest-next t s i le (Falls l) true (happens-between (Falls l) ∙ f)))
-      by_test false f =
-          noted-other (falls_shown v w) m l f cs e.falls ∙ (last.falls l less
-          ∙ sym (greatest-next t s i le (Falls l) false (happens-between (Falls l) ∙ f)))
+  falls-next = edge-next (λ l. Falls l) e.falls last.all_falls (falls_shown-unchanged v cs) last.falls
 
   -- the moment noted of a line's rise is the last one up to the next instant
   rises-next : (l : ℕ) → l < line_count → get_or (noted (rises_shown v w) m e.rises cs) l None
       ≡ moment t (greatest (happens t (Rises l)) (s + 1) (i + 1 + 1))
-  rises-next l less = by_test (rises_shown v w l) refl
-    where
-      by_change : (b : Bool) → is_changed cs l ≡ b → rises_shown v w l ≡ true → is_changed cs l ≡ true
-      by_change true e f = e
-      by_change false e f = absurd (cc (sym (rises_shown-unchanged v cs l e) ∙ f))
-
-      by_test : (b : Bool) → rises_shown v w l ≡ b → get_or (noted (rises_shown v w) m e.rises cs) l None
-          ≡ moment t (greatest (happens t (Rises l)) (s + 1) (i + 1 + 1))
-      by_test true f =
-          noted-changed (rises_shown v w) m l f cs e.rises (rw last.all_rises less) (by_change (is_changed cs l) refl f)
-          ∙ (ap (λ (x : Moment). Some x) is_m
-          ∙ sym (greatest-next t s i le (Rises l) true (happens-between (Rises l) ∙ f)))
-      by_test false f =
-          noted-other (rises_shown v w) m l f cs e.rises ∙ (last.rises l less
-          ∙ sym (greatest-next t s i le (Rises l) false (happens-between (Rises l) ∙ f)))
+  rises-next = edge-next (λ l. Rises l) e.rises last.all_rises (rises_shown-unchanged v cs) last.rises
 
   -- the moment kept of the first `p` since `q` is the first one up to the next instant
   first_or-since : (p q : StepEvent) (found : Option Moment)
