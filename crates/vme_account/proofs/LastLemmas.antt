@@ -2,47 +2,28 @@
 use Rattle.std.proofs.Common.{◌≡◌, ◌≢◌, ◌+◌, ◌-◌, ◌<◌, ◌≤◌, ℕ, zero, suc, Bool, true, false, List, [], ◌∷◌}
 use Rattle.std.proofs.Common.{length, set, get_or}
 use Rattle.std.proofs.Common.{Option, None, Some, refl, sym, subst, ap, ◌∙◌, arith, replicate}
-use Rattle.std.specs.Prelude.{◌&&◌, ◌||◌, ◌==◌, is_some, if◌then◌else◌}
+use Rattle.std.specs.Prelude.{◌||◌, ◌==◌, is_some, if◌then◌else◌}
 use Rattle.std.proofs.lemmas.Bool.Decides.{nat_tests}
 use Rattle.std.proofs.lemmas.List.{get_or-set_same, get_or-set_other, length-replicate, length-set}
 use Rattle.vme_trace.specs.Changes.{is_changed}
 use Rattle.vme_trace.specs.Edges.{starts_between}
 use Rattle.vme_trace.specs.Instants.{greatest, least}
-use Rattle.vme_trace.specs.Levels.{Levels, is_high, is_low}
+use Rattle.vme_trace.specs.Levels.{Levels}
 use Rattle.vme_trace.specs.LineNumbers.{AS, BERR, DTACK, line_count}
 use Rattle.vme_trace.specs.Trace.{Trace, changed, levels_at, time_at}
-use Rattle.vme_trace.specs.declared.level.Level.{Level}
 use Rattle.vme_trace.specs.declared.step.Change.{Change}
-use Rattle.vme_trace.proofs.Changing.{level-kept, slots-kept, not_high_and_low, not_low_and_high}
 use Rattle.vme_trace.proofs.Ranges.{greatest-empty, least-past}
+use Rattle.vme_chains.specs.GrantLevels.{falls_between, rises_between}
+use Rattle.vme_chains.proofs.GrantLines.{falls_between-changed_elsewhere, rises_between-changed_elsewhere}
 use Rattle.vme_account.proofs.EventLemmas.{greatest-not_at_next, greatest-at_next}
 use Rattle.vme_account.proofs.EventLemmas.{since-before, since-now}
 use Rattle.vme_account.specs.LastEvents.{AreLast, first_or, handshake_after, last_after, moment, moment_at, no_events}
 use Rattle.vme_account.specs.LastEvents.{noted, now_or, unless}
-use Rattle.vme_account.specs.RelatedEvents.{falls_shown, happens, happens_between, rises_shown, shown_on, since}
+use Rattle.vme_account.specs.RelatedEvents.{happens, happens_between, since}
 use Rattle.vme_account.specs.declared.last_events.LastEvents.{LastEvents}
 use Rattle.vme_account.specs.declared.last_events.Moment.{Moment}
 use Rattle.vme_account.specs.declared.related_event.StepEvent.{StepEvent}
 use Rattle.vme_account.specs.declared.related_event.StepEvent.TheVariants.{AnswerFalls, Falls, Rises, TransferStarts}
-
--- ---- an edge is one of a line that changes
-
--- a line that isn't changed is shown with the same level
-shown_on-unchanged : (v : Levels) (cs : List Change) (l : ℕ) → is_changed cs l ≡ false → shown_on (changed v cs) l
-    ≡ shown_on v l
-shown_on-unchanged v cs l h = rw (slots-kept v cs, level-kept v cs l h) refl
-
--- a line that isn't changed doesn't fall
-falls_shown-unchanged : (v : Levels) (cs : List Change) (l : ℕ) → is_changed cs l ≡ false
-    → falls_shown v (changed v cs) l ≡ false
-falls_shown-unchanged v cs l h = ap (λ (x : Level). is_high (shown_on v l) && is_low x) (shown_on-unchanged v cs l h)
-    ∙ not_high_and_low (shown_on v l)
-
--- a line that isn't changed doesn't rise
-rises_shown-unchanged : (v : Levels) (cs : List Change) (l : ℕ) → is_changed cs l ≡ false
-    → rises_shown v (changed v cs) l ≡ false
-rises_shown-unchanged v cs l h = ap (λ (x : Level). is_low (shown_on v l) && is_high x) (shown_on-unchanged v cs l h)
-    ∙ not_low_and_high (shown_on v l)
 
 -- ---- the places of the lines
 
@@ -229,14 +210,14 @@ module _ (t : Trace) (s i : ℕ) (le : s ≤ i) (v : Levels) (cs : List Change) 
           ∙ sym (greatest-next t s i le (event l) false (happens-between (event l) ∙ f)))
 
   -- the moment noted of a line's fall is the last one up to the next instant
-  falls-next : (l : ℕ) → l < line_count → get_or (noted (falls_shown v w) m e.falls cs) l None
+  falls-next : (l : ℕ) → l < line_count → get_or (noted (falls_between v w) m e.falls cs) l None
       ≡ moment t (greatest (happens t (Falls l)) (s + 1) (i + 1 + 1))
-  falls-next = edge-next (λ l. Falls l) e.falls last.all_falls (falls_shown-unchanged v cs) last.falls
+  falls-next = edge-next (λ l. Falls l) e.falls last.all_falls (falls_between-changed_elsewhere v cs) last.falls
 
   -- the moment noted of a line's rise is the last one up to the next instant
-  rises-next : (l : ℕ) → l < line_count → get_or (noted (rises_shown v w) m e.rises cs) l None
+  rises-next : (l : ℕ) → l < line_count → get_or (noted (rises_between v w) m e.rises cs) l None
       ≡ moment t (greatest (happens t (Rises l)) (s + 1) (i + 1 + 1))
-  rises-next = edge-next (λ l. Rises l) e.rises last.all_rises (rises_shown-unchanged v cs) last.rises
+  rises-next = edge-next (λ l. Rises l) e.rises last.all_rises (rises_between-changed_elsewhere v cs) last.rises
 
   -- the moment kept of the first `p` since `q` is the first one up to the next instant
   first_or-since : (p q : StepEvent) (found : Option Moment)
@@ -262,8 +243,8 @@ module _ (t : Trace) (s i : ℕ) (le : s ≤ i) (v : Levels) (cs : List Change) 
   -- after one more step the last events are those up to the next instant
   pub AreLast-next : AreLast t s (i + 1) (last_after v w cs m e)
   AreLast-next = record {
-    all_falls = length-noted (falls_shown v w) m cs e.falls ∙ last.all_falls;
-    all_rises = length-noted (rises_shown v w) m cs e.rises ∙ last.all_rises;
+    all_falls = length-noted (falls_between v w) m cs e.falls ∙ last.all_falls;
+    all_rises = length-noted (rises_between v w) m cs e.rises ∙ last.all_rises;
     falls = falls-next;
     rises = rises-next;
     transfer = transfer-next;

@@ -9,7 +9,8 @@ use Rattle.vme_trace.specs.Levels.{Levels}
 use Rattle.vme_trace.specs.LineNumbers.{AS, BERR, DS0, DS1, DTACK, grant, line_count}
 use Rattle.vme_trace.specs.Trace.{Trace, levels_at, time_at}
 use Rattle.vme_trace.specs.declared.step.Change.{Change}
-use Rattle.vme_account.specs.RelatedEvents.{falls_shown, happens, rises_shown, since}
+use Rattle.vme_chains.specs.GrantLevels.{falls_between, rises_between}
+use Rattle.vme_account.specs.RelatedEvents.{happens, since}
 use Rattle.vme_account.specs.declared.last_events.LastEvents.{LastEvents}
 use Rattle.vme_account.specs.declared.last_events.Moment.{Moment}
 use Rattle.vme_account.specs.declared.related_event.StepEvent.{StepEvent}
@@ -60,12 +61,12 @@ handshake_after starts answers begins by_dtack m e =
 abbrev pub last_after : Levels → Levels → List Change → Moment → LastEvents → LastEvents
 last_after v w cs m e =
     record {
-      falls = noted (falls_shown v w) m e.falls cs;
-      rises = noted (rises_shown v w) m e.rises cs;
+      falls = noted (falls_between v w) m e.falls cs;
+      rises = noted (rises_between v w) m e.rises cs;
       transfer = now_or (starts_between v w) m e.transfer;
       answer_in_transfer = first_or (answer_between v w) m (unless (starts_between v w) e.answer_in_transfer);
-      answer_in_cycle = first_or (answer_between v w) m (unless (falls_shown v w AS) e.answer_in_cycle);
-      dtack_in_cycle = first_or (falls_shown v w DTACK) m (unless (falls_shown v w AS) e.dtack_in_cycle);
+      answer_in_cycle = first_or (answer_between v w) m (unless (falls_between v w AS) e.answer_in_cycle);
+      dtack_in_cycle = first_or (falls_between v w DTACK) m (unless (falls_between v w AS) e.dtack_in_cycle);
     }
 
 -- ---- when an event happened last

@@ -1,14 +1,13 @@
 -- What a break refers to besides its own edge: the edges before it that make it a break.
-use Rattle.std.specs.Prelude.{ℕ, Bool, ◌+◌, ◌-◌, ◌&&◌, ◌||◌, Option, None, Some, unwrap_or, if◌then◌else◌}
+use Rattle.std.specs.Prelude.{ℕ, Bool, ◌+◌, ◌-◌, ◌||◌, Option, None, Some, unwrap_or, if◌then◌else◌}
 use Rattle.vme_trace.specs.Edges.{answer_between, starts_between}
 use Rattle.vme_trace.specs.Instants.{greatest, least}
-use Rattle.vme_trace.specs.LineNumbers.{AS, DS0, DS1, DTACK, BBSY, BR, grant, grant_level, has_line, is_grant}
-use Rattle.vme_trace.specs.Levels.{Levels, is_high, is_low, level_at}
+use Rattle.vme_trace.specs.LineNumbers.{AS, DS0, DS1, DTACK, BBSY, BR, grant, grant_level, is_grant}
+use Rattle.vme_trace.specs.Levels.{Levels}
 use Rattle.vme_trace.specs.Trace.{Trace, levels_at}
-use Rattle.vme_trace.specs.declared.level.Level.{Level}
-use Rattle.vme_trace.specs.declared.level.Level.TheVariants.{Unknown}
 use Rattle.vme_trace.specs.declared.rule.Rule.{Rule}
 use Rattle.vme_trace.specs.declared.rule.Rule.TheVariants as rule
+use Rattle.vme_chains.specs.GrantLevels.{falls_between, rises_between}
 use Rattle.vme_account.specs.declared.related_event.StepEvent.{StepEvent}
 use Rattle.vme_account.specs.declared.related_event.StepEvent.TheVariants.{Falls, Rises, StrobeRises, TransferStarts}
 use Rattle.vme_account.specs.declared.related_event.StepEvent.TheVariants.{AnswerFalls, GrantFalls}
@@ -17,27 +16,15 @@ use Rattle.vme_account.specs.declared.related_event.Occurrence.{Occurrence}
 use Rattle.vme_account.specs.declared.related_event.Occurrence.TheVariants.{Last, LastOrNow, FirstInTransfer}
 use Rattle.vme_account.specs.declared.related_event.Occurrence.TheVariants.{FirstInCycle}
 
--- the level of a line, unknown if the backplane lacks the line
-abbrev pub shown_on : Levels → ℕ → Level
-shown_on v l = if has_line v.slots l then level_at v l else Unknown
-
--- the line falls between levels `v` and `w`; a line that the backplane lacks never does
-abbrev pub falls_shown : Levels → Levels → ℕ → Bool
-falls_shown v w l = is_high (shown_on v l) && is_low (shown_on w l)
-
--- the line rises between levels `v` and `w`; a line that the backplane lacks never does
-abbrev pub rises_shown : Levels → Levels → ℕ → Bool
-rises_shown v w l = is_low (shown_on v l) && is_high (shown_on w l)
-
--- the event happens in a step between levels `v` and `w`
+-- the event happens in a step between levels `v` and `w`; a line that the backplane lacks neither falls nor rises
 abbrev pub happens_between : Levels → Levels → StepEvent → Bool
-happens_between v w (Falls l) = falls_shown v w l
-happens_between v w (Rises l) = rises_shown v w l
-happens_between v w StrobeRises = rises_shown v w DS0 || rises_shown v w DS1
+happens_between v w (Falls l) = falls_between v w l
+happens_between v w (Rises l) = rises_between v w l
+happens_between v w StrobeRises = rises_between v w DS0 || rises_between v w DS1
 happens_between v w TransferStarts = starts_between v w
 happens_between v w AnswerFalls = answer_between v w
 happens_between v w GrantFalls =
-    falls_shown v w (grant 0 0) || falls_shown v w (grant 1 0) || falls_shown v w (grant 2 0) || falls_shown v w
+    falls_between v w (grant 0 0) || falls_between v w (grant 1 0) || falls_between v w (grant 2 0) || falls_between v w
     (grant 3 0)
 
 -- the event happens at instant `i`

@@ -2,11 +2,12 @@
 
 ghost use Rattle.std.specs.Prelude.{◌≡◌, ◌<◌, ℕ, None, slice_index_or};
 ghost use Rattle.vme_trace.specs.Trace.{Trace, changed};
+ghost use Rattle.vme_chains.specs.GrantLevels.{falls_between, rises_between};
 ghost use Rattle.vme_account.specs.LastEvents.{AreLast, AreLastNext, first_in_cycle, first_or, handshake_after};
 ghost use Rattle.vme_account.specs.LastEvents.{last_after, last_of, later, moment_at, no_events, noted, now_or, unless};
-ghost use Rattle.vme_account.specs.RelatedEvents.{falls_shown, rises_shown};
 
-use crate::related_event::{StepEvent, falls, rises};
+use crate::related_event::StepEvent;
+use vme_chains::grant_levels::{falls, rises};
 use vme_trace::edges::{answer_falls, starts_transfer};
 use vme_trace::{Change, LINE_COUNT, Line, Lines};
 
@@ -188,7 +189,7 @@ impl LastEvents {
     /// Notes the lines that fall.
     fn note_falls(&mut self, before: &Lines, after: &Lines, changes: &[Change], moment: Moment)
         ensures { self.new ≡ record self.old {
-          falls = noted (falls_shown before.now after.now) moment self.old.falls changes.now;
+          falls = noted (falls_between before.now after.now) moment self.old.falls changes.now;
         } }
     {
         for change in changes {
@@ -201,7 +202,7 @@ impl LastEvents {
     /// Notes the lines that rise.
     fn note_rises(&mut self, before: &Lines, after: &Lines, changes: &[Change], moment: Moment)
         ensures { self.new ≡ record self.old {
-          rises = noted (rises_shown before.now after.now) moment self.old.rises changes.now;
+          rises = noted (rises_between before.now after.now) moment self.old.rises changes.now;
         } }
     {
         for change in changes {

@@ -1,10 +1,9 @@
 //! What else a break refers to: the edges before it that make its own edge a break.
 
 ghost use Rattle.std.specs.Prelude.{◌≡◌, None, Some};
-ghost use Rattle.vme_account.specs.RelatedEvents.{first_related_event, happens_between, second_related_event, shown_on};
+ghost use Rattle.vme_account.specs.RelatedEvents.{first_related_event, second_related_event};
 
-use vme_trace::edges::{answer_falls, starts_transfer};
-use vme_trace::{Level, Line, Lines, Rule};
+use vme_trace::{Line, Rule};
 
 /// What happens at an instant.
 #[derive(Clone, Copy, Debug, PartialEq, Eq)]
@@ -43,31 +42,6 @@ pub struct RelatedEvent {
     pub event: StepEvent,
     /// Which of the instants at which it happens is meant.
     pub occurrence: Occurrence,
-}
-
-/// The level of a line, `Unknown` if the backplane lacks the line.
-fn shown_on(lines: &Lines, line: Line) -> Level
-    ensures { result ≡ shown_on lines.now line }
-{
-    if lines.has(line) {
-        lines.level(line)
-    } else {
-        Level::Unknown
-    }
-}
-
-/// Whether a line falls in a step between these levels.
-pub(crate) fn falls(before: &Lines, after: &Lines, line: Line) -> bool
-    ensures { result ≡ happens_between before.now after.now (StepEvent.Falls line) }
-{
-    shown_on(before, line).is_high() && shown_on(after, line).is_low()
-}
-
-/// Whether a line rises in a step between these levels.
-pub(crate) fn rises(before: &Lines, after: &Lines, line: Line) -> bool
-    ensures { result ≡ happens_between before.now after.now (StepEvent.Rises line) }
-{
-    shown_on(before, line).is_low() && shown_on(after, line).is_high()
 }
 
 /// The last occurrence of an event.

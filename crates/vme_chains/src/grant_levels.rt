@@ -43,15 +43,15 @@ fn is_high(lines: &Lines, line: Line) -> bool
     shown(lines, line).is_high()
 }
 
-/// Whether the line falls at the step.
-pub(crate) fn falls(before: &Lines, after: &Lines, line: Line) -> bool
+/// Whether the line falls at the step. A line that the backplane doesn't have never does.
+pub fn falls(before: &Lines, after: &Lines, line: Line) -> bool
     ensures { result ≡ falls_between before.now after.now line }
 {
     is_low(after, line) && is_high(before, line)
 }
 
-/// Whether the line rises at the step.
-pub(crate) fn rises(before: &Lines, after: &Lines, line: Line) -> bool
+/// Whether the line rises at the step. A line that the backplane doesn't have never does.
+pub fn rises(before: &Lines, after: &Lines, line: Line) -> bool
     ensures { result ≡ rises_between before.now after.now line }
 {
     is_low(before, line) && is_high(after, line)

@@ -35,5 +35,5 @@
 
 pub mod acknowledge;
 pub mod grant;
-mod grant_levels;
+pub mod grant_levels;
 pub mod grant_memory;

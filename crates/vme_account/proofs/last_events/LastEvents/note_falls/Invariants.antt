@@ -1,10 +1,10 @@
 -- Noting the remaining changes from here gives the falls that noting all changes from the start gives.
 use Rattle.std.proofs.Common.{◌≡◌, drop}
+use Rattle.vme_chains.specs.GrantLevels.{falls_between}
 use Rattle.vme_account.specs.LastEvents.{noted}
-use Rattle.vme_account.specs.RelatedEvents.{falls_shown}
 use Rattle.vme_account.proofs.last_events.LastEvents.note_falls.Given as goal
 
 abbrev pub invariant-loop-change : goal.invariant-loop-change
 invariant-loop-change l =
-    record l.self { falls = noted (falls_shown l.before l.after) l.moment l.self.falls (drop l.change-index l.changes) }
-    ≡ record l.fn.self { falls = noted (falls_shown l.before l.after) l.moment l.fn.self.falls l.changes }
+    record l.self { falls = noted (falls_between l.before l.after) l.moment l.self.falls (drop l.change-index l.changes) }
+    ≡ record l.fn.self { falls = noted (falls_between l.before l.after) l.moment l.fn.self.falls l.changes }
