@@ -10,13 +10,13 @@ use Rattle.std.proofs.lemmas.Bool.{and_parts, eqb-true}
 use Rattle.vme_trace.specs.Changes.{is_changed}
 use Rattle.vme_trace.specs.Edges.{falls_between, rises_between}
 use Rattle.vme_trace.specs.Instants.{any}
-use Rattle.vme_trace.specs.Levels.{Levels, is_high, is_low, level_at}
+use Rattle.vme_trace.specs.Levels.{Levels}
 use Rattle.vme_trace.specs.LineNumbers.{grant, has_line, is_arbiter_grant, is_grant, is_slot_grant, line_count}
 use Rattle.vme_trace.specs.Trace.{changed}
 use Rattle.vme_trace.specs.WellFormed.{are_changes}
-use Rattle.vme_trace.specs.declared.level.Level.{Level}
 use Rattle.vme_trace.specs.declared.step.Change.{Change}
-use Rattle.vme_trace.proofs.Changing.{level-kept, slots-kept, exists_below, not_high_and_low, not_low_and_high}
+use Rattle.vme_trace.proofs.Changing.{level-kept, slots-kept, exists_below}
+use Rattle.vme_trace.proofs.Changing.{falls_between-unchanged, rises_between-unchanged}
 use Rattle.vme_trace.proofs.Ranges.{any-holds, any-least, clash, least-found}
 use Rattle.vme_chains.proofs.GrantArbiter.{is_arbiter_grant-of_level, grant-below_line_count}
 use Rattle.vme_auditor.specs.Events.{net_falls, net_rises}
@@ -112,37 +112,33 @@ module _ (v : Levels) (few : v.slots ≤ 21) (cs : List Change) (fit : are_chang
   and-no_edge : (l : ℕ) (b : Bool) → b ≡ false → (chosen l && b) ≡ false
   and-no_edge l b e = ap (λ x. chosen l && x) e ∙ and-false (chosen l)
 
+  -- a chosen line has an edge, which an unchanged line doesn't have, exactly if some change gives it one
+  any-edge_between : (edge net : ℕ → Bool) → ((l : ℕ) → has_line v.slots l ≡ true → net l ≡ edge l)
+      → ((l : ℕ) → is_changed cs l ≡ false → edge l ≡ false)
+      → any (λ l. chosen l && edge l) 0 line_count ≡ list_any (λ c. chosen c.line && net c.line) cs
+  any-edge_between edge net there alone =
+      any-of_changes (λ l. chosen l && edge l) (λ l. chosen l && net l) v few
+      (λ l h. ap (λ b. chosen l && b) (there l h)) cs fit (λ l e. and-no_edge l (edge l) (alone l e))
+
   -- a chosen line falls exactly if some change lets a chosen line fall
   pub any-falls_between : any (λ l. chosen l && falls_between v after l) 0 line_count
       ≡ list_any (λ c. chosen c.line && net_falls v after c.line) cs
   any-falls_between =
-      any-of_changes (λ l. chosen l && falls_between v after l)
-      (λ l. chosen l && net_falls v after l) v few there cs fit alone
+      any-edge_between (λ l. falls_between v after l) (λ l. net_falls v after l) there
+      (λ l e. falls_between-unchanged v after l (level-kept v cs l e))
     where
-      there : (l : ℕ) → has_line v.slots l ≡ true → (chosen l && net_falls v after l)
-          ≡ (chosen l && falls_between v after l)
+      there : (l : ℕ) → has_line v.slots l ≡ true → net_falls v after l ≡ falls_between v after l
       there l h = rw (slots-kept v cs, h) refl
-
-      alone : (l : ℕ) → is_changed cs l ≡ false → (chosen l && falls_between v after l) ≡ false
-      alone l e = and-no_edge l (falls_between v after l)
-          (ap (λ (x : Level). is_high (level_at v l) && is_low x) (level-kept v cs l e)
-          ∙ not_high_and_low (level_at v l))
 
   -- a chosen line rises exactly if some change lets a chosen line rise
   pub any-rises_between : any (λ l. chosen l && rises_between v after l) 0 line_count
       ≡ list_any (λ c. chosen c.line && net_rises v after c.line) cs
   any-rises_between =
-      any-of_changes (λ l. chosen l && rises_between v after l)
-      (λ l. chosen l && net_rises v after l) v few there cs fit alone
+      any-edge_between (λ l. rises_between v after l) (λ l. net_rises v after l) there
+      (λ l e. rises_between-unchanged v after l (level-kept v cs l e))
     where
-      there : (l : ℕ) → has_line v.slots l ≡ true → (chosen l && net_rises v after l)
-          ≡ (chosen l && rises_between v after l)
+      there : (l : ℕ) → has_line v.slots l ≡ true → net_rises v after l ≡ rises_between v after l
       there l h = rw (slots-kept v cs, h) refl
-
-      alone : (l : ℕ) → is_changed cs l ≡ false → (chosen l && rises_between v after l) ≡ false
-      alone l e = and-no_edge l (rises_between v after l)
-          (ap (λ (x : Level). is_low (level_at v l) && is_high x) (level-kept v cs l e)
-          ∙ not_low_and_high (level_at v l))
 
 -- a grant net of the arbiter is the first net of the chain of one of the levels 0 to 3
 grant-of_arbiter_net : (l : ℕ) → is_arbiter_grant l ≡ true → (grant ((l - 50) / 22) 0 ≡ l) × ((l - 50) / 22 < 4)

@@ -5,15 +5,15 @@ use Rattle.std.specs.Prelude.{None, Some}
 use Rattle.std.specs.Option.{is_some}
 use Rattle.std.proofs.lemmas.Bool.{and_left}
 use Rattle.std.proofs.Math.Bool.{and-false, and-true}
-use Rattle.vme_trace.specs.Edges.{falls_between, low_near}
+use Rattle.vme_trace.specs.Edges.{low_near}
 use Rattle.vme_trace.specs.Instants.{least}
 use Rattle.vme_trace.specs.LineNumbers.{input_of}
-use Rattle.vme_trace.specs.Levels.{Levels, level_at}
+use Rattle.vme_trace.specs.Levels.{Levels}
 use Rattle.vme_trace.specs.Trace.{changed}
 use Rattle.vme_trace.specs.Changes.{first_changed, is_changed}
 use Rattle.vme_trace.specs.declared.step.Change.{Change}
 use Rattle.vme_trace.proofs.Ranges.{fails-any, least-none, least-alike}
-use Rattle.vme_trace.proofs.Changing.{level-kept, not_high_and_low}
+use Rattle.vme_trace.proofs.Changing.{level-kept, falls_between-unchanged}
 use Rattle.vme_chains.specs.AcknowledgeRules.{passes_on, passes_unasked}
 
 -- the least line with p where b holds is the least line with p if b holds, and else there is none
@@ -21,10 +21,6 @@ pub least-when : (p : ℕ → Bool) (b : Bool) (n : ℕ) → least (λ l. p l &&
 least-when p true n = least-alike (λ l. p l && true) p 0 n (λ l from to. and-true (p l))
 least-when p false n = least-none (λ l. p l && false) 0 n (fails-any (λ l. p l && false) 0 n
     (λ l from to. and-false (p l)))
-
--- a line that isn't changed doesn't fall
-pub falls_between-unchanged : (v w : Levels) (l : ℕ) → level_at w l ≡ level_at v l → falls_between v w l ≡ false
-falls_between-unchanged v w l e = rw e (not_high_and_low (level_at v l))
 
 -- a slot whose output isn't changed doesn't pass an acknowledge on
 pub passes_on-unchanged : (v : Levels) (cs : List Change) (l : ℕ) → is_changed cs l ≡ false

@@ -16,7 +16,7 @@ use Rattle.vme_trace.specs.declared.level.Level.{Level}
 use Rattle.vme_trace.specs.declared.level.Level.TheVariants.{Low, High, Unknown}
 use Rattle.vme_trace.specs.declared.rule.Rule.TheVariants.{H2, H3, H4, H5, H7, H8}
 use Rattle.vme_trace.specs.declared.step.Change.{Change}
-use Rattle.vme_trace.proofs.Changing.{not_high_and_low, not_low_and_high}
+use Rattle.vme_trace.proofs.Changing.{falls_between-unchanged, rises_between-unchanged}
 use Rattle.vme_monitor.specs.Run.{machine_step, no_step_marks, quiet}
 use Rattle.vme_monitor.specs.Tracked.{IsTransferPhase}
 use Rattle.vme_monitor.specs.Tracking.{answered_by, entered, is_unanswered, is_within, is_writing, tracked}
@@ -134,13 +134,11 @@ module _ (v w : Levels) where
 
   -- it doesn't fall
   pub falls_between-stays : (l : ℕ) → stays_on v w l ≡ true → falls_between v w l ≡ false
-  falls_between-stays l h = ap (λ x. is_high (level_at v l) && is_low x) (level-stays l h)
-      ∙ not_high_and_low (level_at v l)
+  falls_between-stays l h = falls_between-unchanged v w l (level-stays l h)
 
   -- it doesn't rise
   pub rises_between-stays : (l : ℕ) → stays_on v w l ≡ true → rises_between v w l ≡ false
-  rises_between-stays l h = ap (λ x. is_low (level_at v l) && is_high x) (level-stays l h)
-      ∙ not_low_and_high (level_at v l)
+  rises_between-stays l h = rises_between-unchanged v w l (level-stays l h)
 
   -- both strobes are high after the step exactly if they were before it, if they stay as they are
   strobes_high_in-stays : stays_on v w DS0 ≡ true → stays_on v w DS1 ≡ true → strobes_high_in w ≡ strobes_high_in v

@@ -73,36 +73,36 @@ IsTornFile-by_parts files xs ys x k are e number before there =
           (ap (λ n. take (n + 1) files) (sym at) ∙ (ap (take (length xs + 1)) e ∙ take-one_more xs ys x)) joined);
     }
 
+-- files of which one is torn in a segment are those before it, it, and those after it
+torn_file-parts : (files : List Block) (n size k : ℕ)
+    (t : IsTornIn (take n files) (take size (drop n files)) k)
+    → files ≡ (take n files ++ t.front) ++ t.torn ∷ (t.back ++ drop size (drop n files))
+torn_file-parts files n size k t =
+    let rest = drop size (drop n files) in
+    let with_rest : take size (drop n files) ++ rest ≡ drop n files = take-append-drop size (drop n files) in
+    let whole : take n files ++ drop n files ≡ files = take-append-drop n files in
+    sym whole
+    ∙ (ap (λ k. take n files ++ k) (sym with_rest)
+    ∙ (ap (λ k. take n files ++ (k ++ rest)) t.parts
+    ∙ (ap (λ k. take n files ++ k) (append_assoc t.front (t.torn ∷ t.back) rest)
+    ∙ sym (append_assoc (take n files) t.front (t.torn ∷ (t.back ++ rest))))))
+
 -- a file that doesn't follow those before it in a segment is the least such file of the recording
 pub IsTornFile-in_segment : (files : List Block) (n size k : ℕ) → AreFiles files
     → IsTornIn (take n files) (take size (drop n files)) k → IsTornFile files k
 IsTornFile-in_segment files n size k are t =
     let rest = drop size (drop n files) in
-    let with_rest : take size (drop n files) ++ rest ≡ drop n files = take-append-drop size (drop n files) in
-    let whole : take n files ++ drop n files ≡ files = take-append-drop n files in
-    let parts : files ≡ (take n files ++ t.front) ++ t.torn ∷ (t.back ++ rest) =
-    sym whole
-    ∙ (ap (λ k. take n files ++ k) (sym with_rest)
-    ∙ (ap (λ k. take n files ++ (k ++ rest)) t.parts
-    ∙ (ap (λ k. take n files ++ k) (append_assoc t.front (t.torn ∷ t.back) rest)
-    ∙ sym (append_assoc (take n files) t.front (t.torn ∷ (t.back ++ rest)))))) in
-    IsTornFile-by_parts files (take n files ++ t.front) (t.back ++ rest) t.torn k are parts t.numbered t.before t.there
+    IsTornFile-by_parts files (take n files ++ t.front) (t.back ++ rest) t.torn k are
+    (torn_file-parts files n size k t) t.numbered t.before t.there
 
 -- the number of a file that is torn in a segment is below the segment's end
 pub torn_number-below : (files : List Block) (n size k : ℕ) → AreFiles files
     → IsTornIn (take n files) (take size (drop n files)) k → k < n + size
 torn_number-below files n size k are t =
     let rest = drop size (drop n files) in
-    let with_rest : take size (drop n files) ++ rest ≡ drop n files = take-append-drop size (drop n files) in
-    let whole : take n files ++ drop n files ≡ files = take-append-drop n files in
-    let parts : files ≡ (take n files ++ t.front) ++ t.torn ∷ (t.back ++ rest) =
-    sym whole
-    ∙ (ap (λ k. take n files ++ k) (sym with_rest)
-    ∙ (ap (λ k. take n files ++ (k ++ rest)) t.parts
-    ∙ (ap (λ k. take n files ++ k) (append_assoc t.front (t.torn ∷ t.back) rest)
-    ∙ sym (append_assoc (take n files) t.front (t.torn ∷ (t.back ++ rest)))))) in
     let at : t.torn.number ≡ length (take n files ++ t.front)
-    = number-of_file (take n files ++ t.front) (t.back ++ rest) t.torn (subst AreFiles parts are) in
+    = number-of_file (take n files ++ t.front) (t.back ++ rest) t.torn
+    (subst AreFiles (torn_file-parts files n size k t) are) in
     omega (
       arith,
       at,

@@ -18,6 +18,7 @@ use Rattle.vme_trace.specs.declared.level.Level.{Level}
 use Rattle.vme_trace.specs.declared.level.Level.TheVariants.{Low, High, Unknown}
 use Rattle.vme_trace.specs.declared.step.Change.{Change}
 use Rattle.vme_trace.proofs.Ranges.{any-fails, fails-any, any-alike, least-is, least-none, clash}
+use Rattle.vme_trace.specs.Edges.{falls_between, rises_between}
 
 -- numbers whose test fails differ
 eqb-differs : (m l : ℕ) → (m == l) ≡ false → l ≢ m
@@ -69,6 +70,14 @@ pub not_low_and_high : (x : Level) → (is_low x && is_high x) ≡ false
 not_low_and_high Low = refl
 not_low_and_high High = refl
 not_low_and_high Unknown = refl
+
+-- a line that keeps its level doesn't fall
+pub falls_between-unchanged : (v w : Levels) (l : ℕ) → level_at w l ≡ level_at v l → falls_between v w l ≡ false
+falls_between-unchanged v w l e = rw e (not_high_and_low (level_at v l))
+
+-- a line that keeps its level doesn't rise
+pub rises_between-unchanged : (v w : Levels) (l : ℕ) → level_at w l ≡ level_at v l → rises_between v w l ≡ false
+rises_between-unchanged v w l e = rw e (not_low_and_high (level_at v l))
 
 -- an idle bus isn't reset
 pub idle-unreset : (v : Levels) → is_idle v ≡ true → is_reset v ≡ false

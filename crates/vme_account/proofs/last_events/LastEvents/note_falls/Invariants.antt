@@ -6,5 +6,7 @@ use Rattle.vme_account.proofs.last_events.LastEvents.note_falls.Given as goal
 
 abbrev pub invariant-loop-change : goal.invariant-loop-change
 invariant-loop-change l =
-    record l.self { falls = noted (falls_between l.before l.after) l.moment l.self.falls (drop l.change-index l.changes) }
+    record l.self {
+      falls = noted (falls_between l.before l.after) l.moment l.self.falls (drop l.change-index l.changes);
+    }
     ≡ record l.fn.self { falls = noted (falls_between l.before l.after) l.moment l.fn.self.falls l.changes }
