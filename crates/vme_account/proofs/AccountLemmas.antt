@@ -48,6 +48,7 @@ use Rattle.vme_account.specs.declared.row_kind.Part.{Part}
 use Rattle.vme_account.specs.declared.row_kind.Part.TheVariants as part
 use Rattle.vme_account.specs.declared.row_kind.RowKind.{RowKind}
 use Rattle.vme_account.specs.declared.row_kind.RowKind.TheVariants as kind
+use Rattle.vme_account.proofs.KindLemmas.{by_kind}
 
 -- ---- the verdict
 
@@ -190,18 +191,9 @@ module _ (finds : FindsFirst) (shows : ShowsMarks) (t : Trace) (ok : malformed_s
 
   -- a verdict is of no kind that is counted
   is_of-verdict : (k : RowKind) (v : ListedVerdict) → is_of k (row.Verdict v) ≡ false
-  is_of-verdict kind.OpenTenures v = refl
-  is_of-verdict (kind.Tenures level slot) v = refl
-  is_of-verdict kind.SingleCycles v = refl
-  is_of-verdict kind.BlockCycles v = refl
-  is_of-verdict kind.FreeCycles v = refl
-  is_of-verdict kind.InterruptCycles v = refl
-  is_of-verdict kind.AnsweredReads v = refl
-  is_of-verdict kind.AnsweredWrites v = refl
-  is_of-verdict kind.AnsweredByDtack v = refl
-  is_of-verdict kind.AnsweredByBerr v = refl
-  is_of-verdict kind.PendingTransfers v = refl
-  is_of-verdict kind.Resets v = refl
+  is_of-verdict k v =
+      by_kind (λ k. is_of k (row.Verdict v) ≡ false)
+      refl (λ level slot. refl) refl refl refl refl refl refl refl refl refl refl k
 
   -- a verdict isn't open, and no reset
   is_open-verdict : (p : Part) (v : ListedVerdict) → (is_open p (row.Verdict v) || is_reset (row.Verdict v)) ≡ false

@@ -18,7 +18,7 @@ abbrev pub weight : RowKind → Row → ℕ
 weight k r = one_if (is_of k r)
 
 -- what holds of each kind holds of any
-by_kind : (P : RowKind → Type 0) → P kind.OpenTenures → ((level slot : ℕ) → P (kind.Tenures level slot))
+pub by_kind : (P : RowKind → Type 0) → P kind.OpenTenures → ((level slot : ℕ) → P (kind.Tenures level slot))
     → P kind.SingleCycles → P kind.BlockCycles → P kind.FreeCycles → P kind.InterruptCycles → P kind.AnsweredReads
     → P kind.AnsweredWrites → P kind.AnsweredByDtack → P kind.AnsweredByBerr → P kind.PendingTransfers → P kind.Resets
     → (k : RowKind) → P k
