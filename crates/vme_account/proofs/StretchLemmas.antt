@@ -2,13 +2,12 @@
 use Rattle.std.proofs.Common.{◌≡◌, ◌+◌, ◌-◌, ◌<◌, ◌≤◌, ℕ, Bool, true, false, cond, Option, None, Some, refl}
 use Rattle.std.proofs.Common.{sym, subst, ap}
 use Rattle.std.proofs.Common.{◌∙◌, arith}
-use Rattle.std.specs.Prelude.{◌||◌, ◌==◌, IfSome, nat_le, unwrap_or}
-use Rattle.std.proofs.lemmas.Bool.Decides.{nat_tests}
+use Rattle.std.specs.Prelude.{◌||◌, IfSome, nat_le, unwrap_or}
 use Rattle.std.proofs.lemmas.Bool.{eqb-true, ltb-true, eq-eqb}
 use Rattle.vme_trace.specs.Instants.{greatest, least}
 use Rattle.vme_trace.specs.LineNumbers.{AS, DS0, DS1, DTACK, grant, line_count}
 use Rattle.vme_trace.specs.Trace.{Trace}
-use Rattle.vme_trace.proofs.Ranges.{greatest-below, least-past}
+use Rattle.vme_trace.proofs.Ranges.{greatest-below, least-past, eq-fails_below}
 use Rattle.vme_account.proofs.EventLemmas.{greatest-either, greatest-not_at_next, greatest-at_next, later_instant}
 use Rattle.vme_account.specs.LastEvents.{AreLast, last_fall, last_of, last_rise, later, moment, moment_at}
 use Rattle.vme_account.specs.RelatedEvents.{happens, searched, since}
@@ -22,10 +21,6 @@ use Rattle.vme_account.specs.declared.related_event.StepEvent.{StepEvent}
 use Rattle.vme_account.specs.declared.related_event.StepEvent.TheVariants.{AnswerFalls, Falls, GrantFalls, Rises}
 use Rattle.vme_account.specs.declared.related_event.StepEvent.TheVariants.{StrobeRises, TransferStarts}
 use Rattle.vme_account.specs.declared.stretch_events.StretchEvents.{StretchEvents}
-
--- a number isn't equal to a greater one
-eqb-less : (n j : ℕ) → n < j → (n == j) ≡ false
-eqb-less n j less = grind (arith, nat_tests)
 
 module _ (t : Trace) where
   -- ---- the last of two
@@ -99,7 +94,7 @@ module _ (t : Trace) where
     unless_now-earlier None w = refl
     unless_now-earlier (Some n) w = ap
         (λ (c : Bool). cond c None (first_since (greatest (happens t q) (s + 1) (i + 1))))
-        (eqb-less n (i + 1) (w n refl))
+        (eq-fails_below n (i + 1) (w n refl))
 
     -- with the last `q` up to the next instant, `unless_now` gives the first `p` since that `q` and before the next
     -- instant

@@ -8,7 +8,7 @@ use Rattle.std.proofs.lemmas.Bool.{not-false, not-true, or_parts}
 use Rattle.std.proofs.lemmas.Bool.Decides.{nat_tests}
 use Rattle.vme_trace.specs.declared.class.Class.TheVariants as class
 use Rattle.vme_trace.proofs.EveryRule.{every-rule, same-rule}
-use Rattle.vme_trace.proofs.Ranges.{any-fails, fails-any, is_some-least}
+use Rattle.vme_trace.proofs.Ranges.{any-fails, fails-any, is_some-least, eq-fails_below}
 use Rattle.vme_trace.proofs.Changing.{level-kept}
 use Rattle.vme_trace.proofs.StretchEnds.{slots_at}
 use Rattle.vme_trace.proofs.HighestAddress.{highest_address-bound}
@@ -27,7 +27,7 @@ use Rattle.vme_cert.specs.declared.bus.Bus.{Bus}
 use Rattle.vme_cert.specs.declared.state.State.{State}
 use Rattle.std.proofs.lemmas.List.Folds.{list_any_at}
 use Rattle.std.proofs.Math.Bool.{and-false}
-use Rattle.vme_cert.proofs.Ranges.{eq-fails_below, range-of_tests, by_either_value}
+use Rattle.vme_cert.proofs.Ranges.{range-of_tests, by_either_value}
 use Rattle.vme_cert.proofs.Fields.{transfer_starts-is}
 
 -- ---- The table of rules by line lists the rules that speak of a line: every rule is tried on every line.

@@ -17,7 +17,7 @@ use Rattle.vme_trace.proofs.JudgedStretches.{end-within, reset-unlost_at, stretc
 use Rattle.vme_trace.proofs.JudgedStretches.{stretches_after-next}
 use Rattle.vme_trace.proofs.Changing.{lost-least}
 use Rattle.vme_trace.proofs.Ranges.{any-fails, any-holds, fails-any, least-alike, least-found, least-none-any}
-use Rattle.vme_trace.proofs.Ranges.{those-none, those-split}
+use Rattle.vme_trace.proofs.Ranges.{those-none, those-split, eq-fails_below, eq-fails_above}
 use Rattle.vme_trace.proofs.OpenTransfers.{suc-sub-one, is_judged-holds}
 use Rattle.vme_trace.proofs.StretchEnds.{break_before-stays, end-is, end-past, u1-lost, u1-unlost}
 use Rattle.vme_trace.proofs.CutBlocks.{levels_after-append, levels_at-taken, take-next}
@@ -46,7 +46,7 @@ use Rattle.vme_cert.specs.declared.checker.CheckPhase.{CheckPhase}
 use Rattle.vme_cert.specs.declared.checker.CheckPhase.TheVariants.{Ended, InStretch, Waiting}
 use Rattle.vme_cert.specs.declared.open_rows.OpenRows.{OpenRows}
 use Rattle.vme_cert.specs.declared.state.State.{State}
-use Rattle.vme_cert.proofs.Ranges.{eq-fails_below, by_option, eq-fails_above}
+use Rattle.vme_cert.proofs.Ranges.{by_option}
 use Rattle.vme_cert.proofs.Ranges.{eq-or_below}
 use Rattle.vme_cert.proofs.Following.{IsDue-at_last, IsDue-transfer_at_last}
 

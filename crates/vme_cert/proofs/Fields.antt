@@ -9,7 +9,7 @@ use Rattle.std.proofs.lemmas.Bool.{le-leb, ltb-true, ltb-false, and_parts, and_f
 use Rattle.std.proofs.lemmas.Bool.{cases_lt}
 use Rattle.vme_trace.proofs.OpenTransfers.{in_transfer-is, ReadsStrobes, both_high-none_low}
 use Rattle.vme_trace.proofs.Ranges.{any-holds, fails-any, any-step, any-fails, clash, any-least, least-found, any-past}
-use Rattle.vme_trace.proofs.Ranges.{greatest-empty, not_or, those-empty}
+use Rattle.vme_trace.proofs.Ranges.{greatest-empty, not_or, those-empty, order_of}
 use Rattle.vme_trace.proofs.JudgedStretches.{stretch_reads}
 use Rattle.vme_cert.specs.Vocabulary.{AS, DS0, DS1, DTACK, High, Level, Low, Stretch, Trace, Unknown, WRITE}
 use Rattle.vme_cert.specs.Vocabulary.{answer_falls, answers, answers_of, answers_write, any, class_at, cycle_starts}
@@ -27,7 +27,7 @@ use Rattle.vme_cert.specs.declared.state.Cycle.{Cycle}
 use Rattle.vme_cert.proofs.Ranges.{IsGreatest, greatest-found, none-shorter}
 use Rattle.vme_cert.proofs.Ranges.{is_judged-after_start, greatest-here, greatest-not, none-step}
 use Rattle.vme_cert.proofs.Ranges.{eq-or_below}
-use Rattle.vme_cert.proofs.Ranges.{greatest-none-any, below-same-above}
+use Rattle.vme_cert.proofs.Ranges.{greatest-none-any}
 use Rattle.vme_cert.proofs.Ranges.{by_either_value, by_option, is_judged-not_opening, only-last, and-fails_unless}
 use Rattle.vme_cert.proofs.Instant.{known-AS}
 
@@ -410,7 +410,7 @@ earlier_cycles-ended t stretch j c is here i start before = by_either_value c.ha
         let found = greatest-found (cycle_starts t stretch) (stretch.start + 1) j c.start w.last in
         let stopped : c.runs ≡ false = by_either_value c.runs
         (λ e. absurd (clash (falls t AS j) here (falls-not_if_low t AS j (w.is_low e found.before)))) (λ e. e) in
-        elim (below-same-above i c.start) [
+        elim (order_of i c.start) [
           | inl earlier ↦ w.others i start earlier
           | inr (inl e) ↦ ap (λ k. none (rises t AS) (k + 1) j) e ∙ (sym w.runs ∙ stopped)
           | inr (inr past) ↦ absurd (clash (cycle_starts t stretch i) start

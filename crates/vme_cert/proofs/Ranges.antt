@@ -1,24 +1,15 @@
 -- Tests on numbers, and searches over a range of numbers, also for one number more.
 use Rattle.std.proofs.Common.{◌≡◌, ℕ, ◌+◌, ◌<◌, ◌≤◌, Bool, true, false, ◌&&◌, not, refl, arith, ◌⊎◌, zero, suc}
 use Rattle.std.proofs.Common.{[], ◌∷◌, get_or, sym, ◌∙◌, ap, inl, inr, add-one}
-use Rattle.std.specs.Prelude.{◌==◌, nat_le, nat_lt, Option, None, Some}
-use Rattle.std.proofs.lemmas.Bool.Decides.{nat_tests}
+use Rattle.std.specs.Prelude.{nat_le, nat_lt, Option, None, Some}
 use Rattle.std.proofs.lemmas.Bool.{leb-true, le-leb, ltb-true, lt-ltb, le-ltb, and_parts, and_right}
 use Rattle.std.proofs.Math.Bool.{and-false}
 use Rattle.std.proofs.lemmas.Option.{same_Some}
-use Rattle.vme_trace.proofs.Ranges.{any-fails, fails-any, clash, searches, any-holds, any-step}
+use Rattle.vme_trace.proofs.Ranges.{any-fails, fails-any, clash, searches, any-holds, any-step, order_of}
 use Rattle.vme_trace.proofs.Ranges.{not_or, any-past, cond-cases}
 use Rattle.vme_cert.specs.Vocabulary.{Stretch, any, greatest, is_judged, none}
 
 -- ---- Tests on numbers, and two tests together.
-
--- i isn't j, if it is below j
-pub eq-fails_below : (i j : ℕ) → i < j → (i == j) ≡ false
-eq-fails_below i j h = grind (arith, nat_tests)
-
--- i isn't j, if it is above j
-pub eq-fails_above : (i j : ℕ) → j < i → (i == j) ≡ false
-eq-fails_above i j h = grind (arith, nat_tests)
 
 -- what follows from either value of a test holds
 pub by_either_value : {P : Type 0} (b : Bool) → (b ≡ true → P) → (b ≡ false → P) → P
@@ -29,10 +20,6 @@ by_either_value false holds fails = fails refl
 pub by_option : {A P : Type 0} (o : Option A) → (o ≡ None → P) → ((x : A) → o ≡ Some x → P) → P
 by_option None none some = none refl
 by_option (Some x) none some = some x refl
-
--- i is below k, k, or above it
-pub below-same-above : (i k : ℕ) → (i < k) ⊎ ((i ≡ k) ⊎ (k < i))
-below-same-above i k = grind arith
 
 -- i, if it is below j + 1, is j or below j
 pub eq-or_below : (i j : ℕ) → i < j + 1 → (i ≡ j) ⊎ (i < j)
@@ -122,7 +109,7 @@ pub greatest-is : (p : ℕ → Bool) (f n i : ℕ) → f ≤ i → i < n → p i
     ≡ Some i
 greatest-is p f n i from before holds last = by_option (greatest p f n)
     (λ e. absurd (clash (p i) holds (any-fails p f n i (greatest-none-any p f n e) from before)))
-    (λ k e. let found = greatest-found p f n k e in e ∙ elim (below-same-above k i) [
+    (λ k e. let found = greatest-found p f n k e in e ∙ elim (order_of k i) [
       | inl less ↦ absurd (clash (p i) holds (any-fails p (k + 1) n i found.last (omega arith) before))
       | inr (inl is) ↦ ap (λ m. Some m) is
       | inr (inr more) ↦ absurd (clash (p k) found.holds (any-fails p (i + 1) n k last (omega arith) found.before))
@@ -145,7 +132,7 @@ only-last s p f j i found off earlier = by_order (eq-or_below i j found.before)
     -- if `i` is before `j`, `p` holds before `j` exactly if it holds at `i`
     by_value : i < j → any p f j ≡ p i
     by_value before = by_either_value (p i) (λ e. any-holds p f j i found.from before e ∙ sym e)
-        (λ e. fails-any p f j (λ k a b. elim (below-same-above k i) [
+        (λ e. fails-any p f j (λ k a b. elim (order_of k i) [
           | inl less ↦ fails_before k less
           | inr (inl same) ↦ ap p same ∙ e
           | inr (inr more) ↦ fails_after k more b

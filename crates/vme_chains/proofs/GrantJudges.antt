@@ -15,6 +15,7 @@ use Rattle.vme_trace.specs.Tenures.{grant_falls, tenure_starts}
 use Rattle.vme_trace.specs.Verdict.{break_at}
 use Rattle.vme_trace.specs.declared.step.Change.{Change}
 use Rattle.vme_trace.proofs.OpenTransfers.{is_judged-holds}
+use Rattle.vme_trace.proofs.Ranges.{next_or_within}
 use Rattle.vme_monitor.specs.Along.{changes_of, next_at, memory_from}
 use Rattle.vme_monitor.specs.Run.{break_of_fault, machine_step, run_of, quiet, no_end_fault, no_step_marks}
 use Rattle.vme_monitor.specs.OverStretches.{observed, phase_step, opening_phase}
@@ -44,7 +45,6 @@ use Rattle.vme_chains.proofs.GrantSkips.{grant_begins-untouched, falls_between-b
 use Rattle.vme_chains.proofs.GrantSkips.{rises_between-busy_untouched}
 use Rattle.vme_chains.proofs.GrantSkips.{step_fault-none}
 use Rattle.vme_chains.proofs.GrantFaults.{step_fault-break_at}
-use Rattle.vme_chains.proofs.GrantTests.{le-suc_cases}
 
 -- a level is in the set that a condition chooses just if it is in that of the two
 is_in-cond : (b : Bool) (x y : LevelSet) (l : ℕ) → is_in (cond b x y) l ≡ cond b (is_in x l) (is_in y l)
@@ -244,7 +244,7 @@ module _ (t : Trace) (stretch : Stretch) (few : t.opening.slots ≤ 21) where
     Holds-along : (n : ℕ) → stretch.start ≤ n → n < stretch.end → n ≤ length t.steps → Holds t stretch n (memory n)
     Holds-along zero from before within = Holds-at_start zero (omega arith)
     Holds-along (suc n) from before within =
-        elim (le-suc_cases stretch.start n from) [
+        elim (next_or_within stretch.start n from) [
           | inl e ↦ rw (memory_from-before (machine_step grant_observation grant_next) t started stretch.start (suc n)
               (omega arith))
               (Holds-at_start (suc n) e)

@@ -4,8 +4,7 @@ use Rattle.std.proofs.Common.{◌⊎◌}
 use Rattle.vme_trace.specs.Judged.{Stretch}
 use Rattle.vme_trace.specs.Tenures.{last_before}
 use Rattle.vme_trace.specs.Trace.{Trace}
-use Rattle.vme_trace.proofs.Ranges.{greatest-empty, greatest-here, greatest-skip}
-use Rattle.vme_chains.proofs.GrantTests.{le-suc_cases}
+use Rattle.vme_trace.proofs.Ranges.{greatest-empty, greatest-here, greatest-skip, next_or_within}
 
 module _ (t : Trace) (stretch : Stretch) (p : ℕ → Bool) where
   -- one after the start of the stretch, `last_before` gives the start, since no later instant has p
@@ -39,7 +38,7 @@ module _ (t : Trace) (stretch : Stretch) (p : ℕ → Bool) where
         | inr after ↦ rw (last_before-here n after e) (omega arith)
       ]
       by_test zero false e from = at_start zero (omega arith)
-      by_test (suc n) false e from = elim (le-suc_cases stretch.start n from) [
+      by_test (suc n) false e from = elim (next_or_within stretch.start n from) [
         | inl s ↦ at_start (suc n) s
         | inr earlier ↦ rw (last_before-earlier (suc n) e) (let h = by_test n (p n) refl earlier in omega arith)
       ]

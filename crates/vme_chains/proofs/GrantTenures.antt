@@ -2,7 +2,6 @@
 use Rattle.std.proofs.Common.{◌≡◌, ℕ, suc, ◌+◌, ◌<◌, ◌≤◌, Bool, true, false, ◌&&◌, ◌||◌, not, refl, sym, ◌∙◌, ap, arith}
 use Rattle.std.proofs.Common.{Option, Some, None, cond, lit<}
 use Rattle.std.specs.Prelude.{◌==◌, option_map, option_and_then}
-use Rattle.std.proofs.lemmas.Bool.Decides.{nat_tests}
 use Rattle.std.proofs.lemmas.Bool.{eqb-true}
 use Rattle.vme_trace.specs.Instants.{any, none, least, greatest}
 use Rattle.vme_trace.specs.LineNumbers.{line_count, AS, BBSY, has_line}
@@ -13,7 +12,7 @@ use Rattle.vme_trace.specs.Rules.{breaks, is_broken, is_option_equal}
 use Rattle.vme_trace.specs.Tenures.{is_granting, grant_falls, tenure_level, tenure_slot, has_reached, taken_grant}
 use Rattle.vme_trace.specs.Tenures.{last_before}
 use Rattle.vme_trace.specs.declared.rule.Rule.TheVariants.{B1, B2, B3, B4}
-use Rattle.vme_trace.proofs.Ranges.{fails-any, least-is, least-none}
+use Rattle.vme_trace.proofs.Ranges.{fails-any, least-is, least-none, eq-fails_below}
 use Rattle.vme_trace.proofs.OpenTransfers.{is_judged-holds}
 use Rattle.vme_trace.proofs.StretchEnds.{slots_at}
 use Rattle.vme_monitor.specs.declared.mark.BusGrant.{BusGrant}
@@ -26,10 +25,6 @@ use Rattle.vme_chains.proofs.GrantEdges.{is_ungranted-is_granting, taken_between
 use Rattle.vme_chains.proofs.GrantMeaning.{Holds, any-granted_up_to_next}
 use Rattle.vme_chains.proofs.GrantTests.{rule-other_kind, rule-same_kind, add-one_suc}
 
--- a number isn't equal to a greater one
-eqb-below : (a b : ℕ) → a < b → (a == b) ≡ false
-eqb-below a b h = grind (arith, nat_tests)
-
 -- if p fails on all lines but a, the least line with p is a, if p holds there, and else there is none
 least-one_line : (p : ℕ → Bool) (n a : ℕ) → a < n → ((l : ℕ) → (l == a) ≡ false → p l ≡ false) → least p 0 n
     ≡ line_if (p a) a
@@ -41,7 +36,7 @@ least-one_line p n a below elsewhere = by_test (p a) refl
 
     by_test : (b : Bool) → p a ≡ b → least p 0 n ≡ line_if b a
     by_test true e = least-is p 0 n a (omega arith) below e
-        (fails-any p 0 a (λ l from to. elsewhere l (eqb-below l a to)))
+        (fails-any p 0 a (λ l from to. elsewhere l (eq-fails_below l a to)))
     by_test false e = least-none p 0 n (fails-any p 0 n (λ l from to. fails_on e l (l == a) refl))
 
 -- the slot of a taken grant is the given slot, which is there only if the level is

@@ -1,10 +1,6 @@
 -- Tests of lines, instants and kinds of lines, shared by the proofs about grants.
-use Rattle.std.proofs.Common.{◌≡◌, ℕ, suc, ◌+◌, ◌≤◌, Bool, true, false, ◌&&◌, refl, arith, ◌⊎◌}
+use Rattle.std.proofs.Common.{◌≡◌, ℕ, suc, ◌+◌, Bool, true, false, ◌&&◌, refl, arith}
 use Rattle.std.proofs.lemmas.Bool.Decides.{nat_tests}
-
--- a number up to n + 1 is n + 1, or at most n
-pub le-suc_cases : (s n : ℕ) → s ≤ suc n → (s ≡ suc n) ⊎ (s ≤ n)
-le-suc_cases s n h = grind arith
 
 -- one more than n + 1 is n + 2
 pub add-one_suc : (n : ℕ) → suc n + 1 ≡ suc (suc n)

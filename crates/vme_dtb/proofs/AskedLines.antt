@@ -3,7 +3,6 @@
 use Rattle.std.proofs.Common.{◌≡◌, ℕ, suc, ◌<◌, ◌≤◌, Bool, true, false, ◌&&◌, not, refl, ◌∙◌, ap, arith, cond, lit<}
 use Rattle.std.proofs.Common.{lit≤}
 use Rattle.std.specs.Prelude.{None, Some, ◌==◌}
-use Rattle.std.proofs.lemmas.Bool.Decides.{nat_tests}
 use Rattle.std.proofs.lemmas.Bool.{eqb-true}
 use Rattle.vme_trace.specs.Edges.{falls_between, starts_between}
 use Rattle.vme_trace.specs.Instants.{least}
@@ -18,7 +17,7 @@ use Rattle.vme_trace.specs.Cycles.{cycle_starts}
 use Rattle.vme_trace.specs.Rules.{breaks, is_broken}
 use Rattle.vme_trace.specs.declared.rule.Rule.TheVariants.{U2, U3}
 use Rattle.vme_trace.proofs.OpenTransfers.{ReadsStrobes}
-use Rattle.vme_trace.proofs.Ranges.{fails-any, least-alike, least-is, least-none}
+use Rattle.vme_trace.proofs.Ranges.{fails-any, least-alike, least-is, least-none, eq-fails_below}
 use Rattle.vme_trace.proofs.Changing.{bus_line_exists}
 use Rattle.vme_dtb.specs.StabilityRules.{lacks, unknown_address, unknown_direction}
 use Rattle.vme_dtb.proofs.StabilityMeaning.{is_judged-next, cycle_starts-between, transfer_starts-between}
@@ -36,16 +35,13 @@ pub least-WRITE : (p : ℕ → Bool) → ((l : ℕ) → (l == WRITE) ≡ false �
     ≡ cond (p WRITE) (Some WRITE) None
 least-WRITE p elsewhere = by_test (p WRITE) refl
   where
-    unlike : (l k : ℕ) → l < k → (l == k) ≡ false
-    unlike l k h = grind (arith, nat_tests)
-
     nowhere : p WRITE ≡ false → (l : ℕ) (b : Bool) → (l == WRITE) ≡ b → p l ≡ false
     nowhere h l true e = ap p (eqb-true l WRITE e) ∙ h
     nowhere h l false e = elsewhere l e
 
     by_test : (b : Bool) → p WRITE ≡ b → least p 0 line_count ≡ cond b (Some WRITE) None
     by_test true e = least-is p 0 line_count WRITE (lit≤ tt) (lit< tt) e
-        (fails-any p 0 WRITE (λ l a b. elsewhere l (unlike l WRITE b)))
+        (fails-any p 0 WRITE (λ l a b. elsewhere l (eq-fails_below l WRITE b)))
     by_test false e = least-none p 0 line_count (fails-any p 0 line_count (λ l a b. nowhere e l (l == WRITE) refl))
 
 -- U2 on a line by equal tests, if the instant is judged and each needed line exists

@@ -1,6 +1,6 @@
 -- The memory of the handshake (the state of the automaton) is right of each judged instant, whichever rules are broken.
 use Rattle.std.proofs.Common.{◌≡◌, ℕ, zero, suc, ◌<◌, ◌≤◌, Bool, true, false, ◌&&◌, ◌||◌, not, refl, sym, ◌∙◌, ap}
-use Rattle.std.proofs.Common.{arith, lit<, Option, Some, None, cond, subst, inl, inr, ◌⊎◌}
+use Rattle.std.proofs.Common.{arith, lit<, Option, Some, None, cond, subst, inl, inr}
 use Rattle.std.specs.Prelude.{is_some, slice_get}
 use Rattle.std.proofs.lemmas.Bool.{not-false, not-true, le-ltb}
 use Rattle.vme_trace.specs.LineNumbers.{line_count, DTACK, BERR}
@@ -9,7 +9,7 @@ use Rattle.vme_trace.specs.Trace.{Trace, levels_at}
 use Rattle.vme_trace.specs.Signals.{low}
 use Rattle.vme_trace.specs.Judged.{Stretch}
 use Rattle.vme_trace.specs.Transfers.{strobe_rises, is_answer, answers_write}
-use Rattle.vme_trace.proofs.Ranges.{any-fails}
+use Rattle.vme_trace.proofs.Ranges.{any-fails, next_or_within}
 use Rattle.vme_monitor.specs.Along.{changes_of, memory_from}
 use Rattle.vme_monitor.specs.Run.{machine_step}
 use Rattle.vme_monitor.specs.Tracking.{entered, is_unanswered, is_writing}
@@ -48,10 +48,6 @@ after_answer-by_tests true true (Some l) c = refl
 after_answer-by_tests true false None c = refl
 after_answer-by_tests true false (Some l) c = refl
 after_answer-by_tests false w o c = refl
-
--- an s up to n + 1 is n + 1, or up to n
-start_or_after : (s n : ℕ) → s ≤ suc n → (s ≡ suc n) ⊎ (s ≤ n)
-start_or_after s n h = grind arith
 
 module _ (t : Trace) (stretch : Stretch) (facts : IsStretch t stretch) where
   -- the memory with which a stretch begins is right of its start
@@ -145,7 +141,7 @@ module _ (t : Trace) (stretch : Stretch) (facts : IsStretch t stretch) where
       in subst (λ (k : ℕ). Holds t stretch k (memory_at k)) e
       Holds-memory_at_start
   Holds-at (suc n) from before =
-      elim (start_or_after stretch.start n from) [
+      elim (next_or_within stretch.start n from) [
         | inl e ↦ subst (λ (k : ℕ). Holds t stretch k (memory_at k)) e Holds-memory_at_start
         | inr earlier ↦
             let so_far = Holds-at n earlier (omega arith) in

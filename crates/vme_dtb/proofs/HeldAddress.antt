@@ -1,7 +1,7 @@
 -- The least line that breaks S1, i.e. that a cycle needs and that changes before the first answer of the cycle, is that
 -- of the machine's fault.
 use Rattle.std.proofs.Common.{◌≡◌, ℕ, zero, suc, ◌+◌, ◌<◌, ◌≤◌, Bool, true, false, ◌&&◌, not, List, refl, sym, ◌∙◌, ap}
-use Rattle.std.proofs.Common.{arith, cond, inl, inr, ◌⊎◌, length, lit<, subst}
+use Rattle.std.proofs.Common.{arith, cond, inl, inr, length, lit<, subst}
 use Rattle.std.specs.Prelude.{Option, None, Some, slice_get, unwrap_or, option_map}
 use Rattle.std.specs.Option.{option_or}
 use Rattle.std.proofs.lemmas.Option.{slice_get_past}
@@ -26,7 +26,7 @@ use Rattle.vme_trace.specs.declared.step.Change.{Change}
 use Rattle.vme_trace.proofs.Changing.{level-kept, bus_line_exists, first_changed-least_alike}
 use Rattle.vme_trace.proofs.OpenTransfers.{suc-sub-one, is_judged-holds}
 use Rattle.vme_trace.proofs.Ranges.{any-alike, any-fails, any-holds, any-least, fails-any, least-found, least-none}
-use Rattle.vme_trace.proofs.Ranges.{least-none-any}
+use Rattle.vme_trace.proofs.Ranges.{least-none-any, next_or_within}
 use Rattle.vme_monitor.proofs.StretchFacts.{IsStretch}
 use Rattle.vme_dtb.specs.StabilityRules.{changed_need_line, changed_need_fault, observation_of, stability_rules}
 use Rattle.vme_dtb.specs.declared.holding.Holding.{Holding}
@@ -45,10 +45,6 @@ option_or-none_parts (Some x) b h = absurd (cc)
 option_map-none : {A B : Type 0} (f : A → B) (a : Option A) → option_map f a ≡ None → a ≡ None
 option_map-none f None h = refl
 option_map-none f (Some x) h = absurd (cc)
-
--- an instant up to n + 1 is n + 1, or up to n
-last_or_before : (k n : ℕ) → k ≤ suc n → (k ≡ suc n) ⊎ (k ≤ n)
-last_or_before k n h = grind arith
 
 -- if a conjunction is false in which only e may be false, e is
 has_edge-off : (j h e a : Bool) → (j && h && (e && a)) ≡ false → j ≡ true → h ≡ true → a ≡ true → e ≡ false
@@ -88,7 +84,7 @@ module _ (t : Trace) (stretch : Stretch) where
       (sym e)
       (option_or-none_parts (break_before t stretch stability_rules 0) (break_at t stretch stability_rules 0) h).1
   break_at-none_before (suc n) k h order =
-      elim (last_or_before k n order) [
+      elim (next_or_within k n order) [
         | inl e ↦ subst (λ j. break_at t stretch stability_rules j ≡ None) (sym e)
             (option_or-none_parts (break_before t stretch stability_rules (suc n))
             (break_at t stretch stability_rules (suc n)) h).1
@@ -201,7 +197,7 @@ module _ (t : Trace) (stretch : Stretch) where
         ≡ level_at (levels_at t i) l
     level_at-held zero l from to needed small = let e : i ≡ 0 = omega arith in rw e refl
     level_at-held (suc k) l from to needed small =
-        elim (last_or_before i k from) [
+        elim (next_or_within i k from) [
           | inl e ↦ rw e refl
           | inr later ↦ level_at-no_edge k l (has_edge-held k l later to needed small)
               ∙ level_at-held k l later (omega arith) needed small
@@ -238,7 +234,7 @@ module _ (t : Trace) (stretch : Stretch) where
     low-held : (k : ℕ) → i ≤ k → k ≤ n → low t AS k ≡ true
     low-held zero from to = let e : i ≡ 0 = omega arith in rw e at (low-cycle_start starts)
     low-held (suc k) from to =
-        elim (last_or_before i k from) [
+        elim (next_or_within i k from) [
           | inl e ↦ rw e at (low-cycle_start starts)
           | inr later ↦ low-next k (omega arith) (omega arith) (low-held k later (omega arith))
               (rises-none_in_cycle runs k later to)

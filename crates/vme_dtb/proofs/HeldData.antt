@@ -1,7 +1,7 @@
 -- The least line that breaks U4 or S3, i.e. a data line of a write that is unknown as a strobe falls, or changes while
 -- it is held, is that of the machine's fault.
 use Rattle.std.proofs.Common.{◌≡◌, ℕ, suc, ◌+◌, ◌-◌, ◌<◌, ◌≤◌, Bool, true, false, ◌||◌, ◌&&◌, not, refl, sym, ◌∙◌, ap}
-use Rattle.std.proofs.Common.{arith, cond, inl, inr, ◌⊎◌}
+use Rattle.std.proofs.Common.{arith, cond, inl, inr}
 use Rattle.std.specs.Prelude.{Option, None, Some, List, nat_le, nat_lt}
 use Rattle.std.proofs.lemmas.Bool.Decides.{nat_tests}
 use Rattle.std.proofs.lemmas.Bool.{and_parts, le-leb}
@@ -25,7 +25,7 @@ use Rattle.vme_trace.specs.declared.rule.Rule.TheVariants.{U4, S3}
 use Rattle.vme_trace.specs.declared.step.Change.{Change}
 use Rattle.vme_trace.proofs.Changing.{first_changed-least_alike, level-kept}
 use Rattle.vme_trace.proofs.OpenTransfers.{ReadsStrobes, suc-sub-one}
-use Rattle.vme_trace.proofs.Ranges.{any-step, clash, fails-any, least-alike, least-none}
+use Rattle.vme_trace.proofs.Ranges.{any-step, clash, fails-any, least-alike, least-none, next_or_within}
 use Rattle.vme_trace.proofs.StretchEnds.{slots_at}
 use Rattle.vme_monitor.specs.Tracking.{entered, is_writing}
 use Rattle.vme_monitor.specs.declared.tracking.TransferPhase.{TransferPhase}
@@ -223,10 +223,6 @@ module _ (t : Trace) (stretch : Stretch) (reads : ReadsStrobes t stretch) (n : �
       && none (strobe_rises t)
       (i + 1) (suc n + 1)
 
-  -- an instant up to n + 1 is n + 1, or up to n
-  now_or_earlier : (i : ℕ) → i ≤ suc n → (i ≡ suc n) ⊎ (i ≤ n)
-  now_or_earlier i h = grind arith
-
   -- an instant up to n is before n + 1
   nat_lt-earlier : (i : ℕ) → i ≤ n → nat_lt i (suc n) ≡ true
   nat_lt-earlier i h = grind (arith, nat_tests)
@@ -239,7 +235,7 @@ module _ (t : Trace) (stretch : Stretch) (reads : ReadsStrobes t stretch) (n : �
   is_held-just_started : (i : ℕ) (w a : Bool) → IsIn t stretch (suc n) i w a → strobes_high t n ≡ true → is_held i
       ≡ false
   is_held-just_started i w a o strobes_high_in-state =
-      elim (now_or_earlier i o.within) [
+      elim (next_or_within i n o.within) [
         | inl e ↦ rw (nat_lt-now i e) refl
         | inr earlier ↦ absurd (clash (strobes_high t n) strobes_high_in-state (o.still n earlier (omega arith)))
       ]
@@ -273,7 +269,7 @@ module _ (t : Trace) (stretch : Stretch) (reads : ReadsStrobes t stretch) (n : �
   -- a transfer that was open at n started at n or before
   started_before : (i : ℕ) (w a : Bool) → IsIn t stretch (suc n) i w a → strobes_high_in old ≡ false → i ≤ n
   started_before i w a o low =
-      elim (now_or_earlier i o.within) [
+      elim (next_or_within i n o.within) [
         | inl e ↦ absurd (clash (strobes_high_in old) (and_parts (strobes_high_in old) (strobe_low_in new)
             (sym (transfer_starts-between t stretch reads n from before) ∙ (rw e at o.starts))).0 low)
         | inr earlier ↦ earlier

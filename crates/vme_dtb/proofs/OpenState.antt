@@ -1,7 +1,7 @@
 -- The phase of the transfer at instant n says whether n + 1 is in a transfer that started before, without an answer or
 -- with one, or in one that is answered twice.
 use Rattle.std.proofs.Common.{◌≡◌, ℕ, suc, ◌+◌, ◌<◌, ◌≤◌, Bool, true, false, ◌||◌, ◌&&◌, not, refl, sym, ◌∙◌, ap, arith}
-use Rattle.std.proofs.Common.{inl, inr, ◌⊎◌, add-one}
+use Rattle.std.proofs.Common.{inl, inr, add-one}
 use Rattle.std.specs.Prelude.{nat_lt}
 use Rattle.std.proofs.lemmas.Bool.{le-ltb, lt-ltb}
 use Rattle.vme_trace.specs.Instants.{any}
@@ -11,7 +11,7 @@ use Rattle.vme_trace.specs.Signals.{falls}
 use Rattle.vme_trace.specs.Judged.{Stretch}
 use Rattle.vme_trace.specs.Transfers.{strobes_high, answer_falls, lasts, is_answered, answers}
 use Rattle.vme_trace.specs.Transfers.{in_transfer}
-use Rattle.vme_trace.proofs.Ranges.{clash, any-next}
+use Rattle.vme_trace.proofs.Ranges.{clash, any-next, next_or_within}
 use Rattle.vme_trace.proofs.OpenTransfers.{suc-sub-one, ReadsStrobes}
 use Rattle.vme_monitor.specs.Tracked.{StaysOpen, IsTransferPhase}
 use Rattle.vme_monitor.specs.Tracking.{is_unanswered, is_within}
@@ -22,10 +22,6 @@ use Rattle.vme_monitor.proofs.TrackedTransfers.{IsIn-StaysOpen, in_transfer-clos
 use Rattle.vme_monitor.specs.Tracking.{entered}
 use Rattle.vme_trace.specs.Trace.{levels_at}
 use Rattle.vme_dtb.specs.Machine.{has_answer}
-
--- an instant up to n + 1 is n + 1, or up to n
-last_or_before : (i n : ℕ) → i ≤ suc n → (i ≡ suc n) ⊎ (i ≤ n)
-last_or_before i n h = grind arith
 
 -- where d and b are both asked for, d or b needn't be
 and-both_alone : (d b : Bool) → ((((d || b) && true) && d) && b) ≡ (d && b)
@@ -49,7 +45,7 @@ module _ (t : Trace) (stretch : Stretch) (reads : ReadsStrobes t stretch) (n : �
   -- if both strobes are high at n, a transfer in which n + 1 is starts there
   IsIn-starts_now : (i : ℕ) (w a : Bool) → IsIn t stretch (suc n) i w a → strobes_high t n ≡ true → i ≡ suc n
   IsIn-starts_now i w a o high_before =
-      elim (last_or_before i n o.within) [
+      elim (next_or_within i n o.within) [
         | inl e ↦ e
         | inr earlier ↦ absurd (clash (strobes_high t n) high_before (o.still n earlier (omega arith)))
       ]

@@ -1,6 +1,6 @@
 -- The fault that the monitor of stability finds at each judged instant is the first broken rule.
 use Rattle.std.proofs.Common.{◌≡◌, ℕ, zero, suc, ◌<◌, ◌≤◌, Bool, true, false, not, ◌&&◌, List, [], refl, sym, arith}
-use Rattle.std.proofs.Common.{cond, inl, inr, ◌⊎◌, length, lit<, subst}
+use Rattle.std.proofs.Common.{cond, inl, inr, length, lit<, subst}
 use Rattle.std.specs.Prelude.{Option, None, Some, option_map, slice_get}
 use Rattle.std.specs.Option.{option_map_or, option_or}
 use Rattle.std.proofs.lemmas.Bool.Decides.{nat_tests}
@@ -15,7 +15,7 @@ use Rattle.vme_trace.specs.declared.level.Level.{Level}
 use Rattle.vme_trace.specs.declared.level.Level.TheVariants.{Low, High, Unknown}
 use Rattle.vme_trace.specs.declared.rule.Rule.TheVariants.{U2, U3, U4, S1, S2, S3}
 use Rattle.vme_trace.specs.declared.step.Change.{Change}
-use Rattle.vme_trace.proofs.Ranges.{any-fails}
+use Rattle.vme_trace.proofs.Ranges.{any-fails, next_or_within}
 use Rattle.vme_monitor.specs.Along.{changes_of, memory_from, next_at}
 use Rattle.vme_monitor.specs.Run.{break_of_fault, no_step_marks, machine_step, quiet, run_of}
 use Rattle.vme_monitor.specs.Run.{no_end_fault, no_start_marks}
@@ -157,10 +157,6 @@ module _ (t : Trace) (stretch : Stretch) (ok : malformed_step t ≡ None) (facts
   is_control-strobe : (s l : ℕ) → l < 3 → is_control s l ≡ true
   is_control-strobe s l h = grind (arith, nat_tests)
 
-  -- an s up to n + 1 is n + 1, or up to n
-  first_or_later : (s n : ℕ) → s ≤ suc n → (s ≡ suc n) ⊎ (s ≤ n)
-  first_or_later s n h = grind arith
-
   -- AS* isn't low at the start of the stretch
   is_low-AS_start : is_low (level_at (levels_at t stretch.start) AS) ≡ false
   unfolding is_idle
@@ -179,7 +175,7 @@ module _ (t : Trace) (stretch : Stretch) (ok : malformed_step t ≡ None) (facts
       subst (λ k. Holds t stretch k (stability_begin (levels_at t stretch.start))) e
       (Holds-start t stretch facts.reads is_low-AS_start (levels_at t stretch.start))
   Holds-at (suc n) from before within =
-      elim (first_or_later stretch.start n from) [
+      elim (next_or_within stretch.start n from) [
         | inl e ↦ at_start e
         | inr later ↦ let holds = Holds-at n later (omega arith) (omega arith) in
             rw (le-ltb n stretch.start later, next_at-full n later before (omega arith) (memory_at n) holds)

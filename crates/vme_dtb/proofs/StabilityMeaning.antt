@@ -5,7 +5,7 @@ use Rattle.std.proofs.Common.{cond}
 use Rattle.vme_trace.specs.Edges.{answer_between, falls_between, rises_between, starts_between, strobe_low_in}
 use Rattle.vme_trace.specs.Edges.{strobe_rises_between, strobes_high_in}
 use Rattle.vme_trace.specs.Instants.{any, none}
-use Rattle.std.proofs.Common.{inl, inr, ◌⊎◌}
+use Rattle.std.proofs.Common.{inl, inr}
 use Rattle.std.specs.Prelude.{None}
 use Rattle.std.proofs.lemmas.Bool.{and_parts, or_parts, le-leb}
 use Rattle.std.proofs.Math.Bool.{and-true, and_assoc}
@@ -20,7 +20,7 @@ use Rattle.vme_trace.specs.Cycles.{cycle_starts, cycle_runs}
 use Rattle.vme_trace.specs.declared.level.Level.{Level}
 use Rattle.vme_trace.specs.declared.level.Level.TheVariants.{Low, High, Unknown}
 use Rattle.vme_trace.proofs.OpenTransfers.{suc-sub-one, is_judged-holds, ReadsStrobes}
-use Rattle.vme_trace.proofs.Ranges.{any-step, clash, fails-any}
+use Rattle.vme_trace.proofs.Ranges.{any-step, clash, fails-any, next_or_within}
 use Rattle.vme_monitor.specs.Tracked.{IsTransferPhase}
 use Rattle.vme_monitor.specs.Tracking.{answered_by, is_unanswered, is_writing, tracked}
 use Rattle.vme_monitor.specs.declared.tracking.TransferPhase.{TransferPhase}
@@ -340,17 +340,13 @@ module _ (t : Trace) (stretch : Stretch) where
     strobes_high_in-start : transfer_starts t stretch (suc n) ≡ true → strobes_high_in old ≡ true
     strobes_high_in-start s = (and_parts (strobes_high_in old) (strobe_low_in new) (sym transfer_starts-between ∙ s)).0
 
-    -- an instant up to n + 1 is n + 1, or up to n
-    last_or_before : (i : ℕ) → i ≤ suc n → (i ≡ suc n) ⊎ (i ≤ n)
-    last_or_before i h = grind arith
-
     -- whether no strobe has risen up to n + 1 in the transfer that is open
     none_rises-fresh : (m : Holding) → Holds n m → (i : ℕ) → i ≤ suc n → transfer_starts t stretch i ≡ true
         → ((r : ℕ) → i ≤ r → r ≤ suc n → strobes_high t r ≡ false) → none (strobe_rises t) (i + 1) (suc n + 1)
         ≡ not (risen_now m)
     unfolding high
     none_rises-fresh m h i a s low =
-        elim (last_or_before i a) [
+        elim (next_or_within i n a) [
           | inl e ↦
               rw e
               (none-empty (strobe_rises t) (suc n + 1)

@@ -3,7 +3,6 @@
 use Rattle.std.proofs.Common.{◌≡◌, ℕ, zero, suc, ◌+◌, ◌<◌, ◌≤◌, Bool, true, false, ◌&&◌, List, [], ◌∷◌, ◌++◌, map, refl}
 use Rattle.std.proofs.Common.{sym, ◌∙◌, ap, arith, Option, None, cond, inl, inr, ◌⊎◌, append_assoc, append-nil}
 use Rattle.std.specs.Prelude.{◌==◌, nat_lt, nat_le}
-use Rattle.std.proofs.lemmas.Bool.Decides.{nat_tests}
 use Rattle.std.proofs.lemmas.Bool.{cases_lt, le-leb, lt-ltb, eq-eqb}
 use Rattle.vme_trace.specs.LineNumbers.{BBSY}
 use Rattle.vme_trace.specs.Levels.{is_idle, is_low, level_at}
@@ -11,7 +10,7 @@ use Rattle.vme_trace.specs.Trace.{Trace, levels_at}
 use Rattle.vme_trace.specs.Signals.{low}
 use Rattle.vme_trace.specs.Judged.{Stretch, is_reset_at}
 use Rattle.vme_trace.specs.Cycles.{cycle_starts}
-use Rattle.vme_trace.proofs.Ranges.{greatest-empty}
+use Rattle.vme_trace.proofs.Ranges.{greatest-empty, eq-fails_below, eq-fails_above}
 use Rattle.vme_trace.proofs.Unjudged.{is_judged-early}
 use Rattle.vme_listing.specs.Recorded.{cycle_rows, rows_before, tenure_rows, transfer_rows}
 use Rattle.vme_listing.specs.declared.row.Row.{Row}
@@ -34,14 +33,6 @@ use Rattle.vme_summary.proofs.MarkedKinds.{cycle_starts-unjudged, tenure_starts-
 use Rattle.vme_summary.proofs.MarkedKinds.{all_shown-shown_at, shown_at, shown_at-unjudged}
 use Rattle.vme_summary.proofs.MarkedRowsFound.{cycle_rows-of_marks, latest, latest-one_more}
 use Rattle.vme_summary.proofs.MarkedRowsFound.{tenure_rows-of_marks, transfer_rows-of_marks}
-
--- i isn't j, if it is below j
-eq-fails_below : (i j : ℕ) → i < j → (i == j) ≡ false
-eq-fails_below i j h = grind (arith, nat_tests)
-
--- i isn't j, if it is above j
-eq-fails_above : (i j : ℕ) → j < i → (i == j) ≡ false
-eq-fails_above i j h = grind (arith, nat_tests)
 
 -- the marks of instant j
 abbrev pub pieces : (ℕ → StepMarks) → ℕ → List Mark

@@ -17,7 +17,7 @@ use Rattle.vme_trace.specs.Changes.{first_changed, is_changed, lost_among, touch
 use Rattle.vme_trace.specs.declared.level.Level.{Level}
 use Rattle.vme_trace.specs.declared.level.Level.TheVariants.{Low, High, Unknown}
 use Rattle.vme_trace.specs.declared.step.Change.{Change}
-use Rattle.vme_trace.proofs.Ranges.{any-fails, fails-any, any-alike, least-is, least-none, clash}
+use Rattle.vme_trace.proofs.Ranges.{any-fails, fails-any, any-alike, least-is, least-none, clash, eq-fails_above}
 use Rattle.vme_trace.specs.Edges.{falls_between, rises_between}
 
 -- numbers whose test fails differ
@@ -189,10 +189,6 @@ bus_line_exists slots l h = grind (arith, nat_tests)
 lt-next : (l k : ℕ) → l < k → l < k + 1
 lt-next l k h = omega arith
 
--- a number isn't equal to a lower one
-eqb-lower : (a b : ℕ) → b < a → (a == b) ≡ false
-eqb-lower a b h = grind (arith, nat_tests)
-
 -- the least line with p is the first changed line with q, if p fails on unchanged lines and agrees with q on changed
 -- ones, and each line of the backplane with q is below n
 module _ (v : Levels) (p q : ℕ → Bool) (n : ℕ)
@@ -228,7 +224,7 @@ module _ (v : Levels) (p q : ℕ → Bool) (n : ℕ)
       let here : p c.line ≡ q c.line = alike c.line (rw (eq-eqb c.line c.line refl) refl) in
       first_changed-least_here c cs (q c.line) refl exists (λ e. here ∙ e)
       (fails-any p 0 c.line
-      (λ l a b. fails l (rw (eqb-lower c.line l b, is_changed-below v (c.line + 1) l cs parts.1 (lt-next l c.line b))
+      (λ l a b. fails l (rw (eq-fails_above c.line l b, is_changed-below v (c.line + 1) l cs parts.1 (lt-next l c.line b))
       refl)))
       (λ e. first_changed-least_alike (c.line + 1) cs parts.1 (fails-unchanged_rest c cs fails (here ∙ e))
       (λ l k. alike l (or_right (c.line == l) (is_changed cs l) k)))

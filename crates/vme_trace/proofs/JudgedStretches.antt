@@ -15,7 +15,7 @@ use Rattle.vme_trace.specs.Judged.{judged_stretches, stretches_after}
 use Rattle.vme_trace.proofs.Changing.{idle-unlost, idle-unreset, reset-unlost}
 use Rattle.vme_trace.proofs.OpenTransfers.{ReadsStrobes}
 use Rattle.vme_trace.proofs.Ranges.{any-fails, fails-any, any-least, least-found, those-none, those-more, those-same}
-use Rattle.vme_trace.proofs.Ranges.{those-next, those-split, clash}
+use Rattle.vme_trace.proofs.Ranges.{those-next, those-split, clash, next_or_within}
 use Rattle.vme_trace.proofs.StretchEnds.{not_lost, not_reset, reads_strobes}
 
 -- 0 is at most n
@@ -31,10 +31,6 @@ greatest-or_zero p (suc n) = by_test (nat_le 0 n && p n) (greatest-or_zero p n)
     by_test : (b : Bool) → unwrap_or (greatest p 0 n) 0 ≤ n → unwrap_or (cond b (Some n) (greatest p 0 n)) 0 ≤ suc n
     by_test true h = omega arith
     by_test false h = omega arith
-
--- an instant up to n + 1 is n + 1, or up to n
-last_or_before : (j n : ℕ) → j ≤ suc n → (j ≡ suc n) ⊎ (j ≤ n)
-last_or_before j n h = grind arith
 
 -- an instant n from s on is s, or after it
 same_or_after : (s n : ℕ) → s ≤ n → (s ≡ n) ⊎ (s < n)
@@ -149,7 +145,7 @@ module _ (t : Trace) where
   pub awaits-until : (f n : ℕ) → Awaits t f → f ≤ n → any (is_idle_at t) f n ≡ false → Awaits t n
   awaits-until f zero w from busy = let e : f ≡ 0 = omega arith in subst (Awaits t) e w
   awaits-until f (suc n) w from busy =
-      elim (last_or_before f n from) [
+      elim (next_or_within f n from) [
         | inl e ↦ subst (Awaits t) e w
         | inr before ↦ awaits-next n
             (awaits-until f n w before (fails-any (is_idle_at t) f n (λ i a b. any-fails (is_idle_at t) f (suc n) i busy
@@ -199,7 +195,7 @@ module _ (t : Trace) where
   pub cut-stays : (m n : ℕ) → any (is_cut_off t) 0 m ≡ true → m ≤ n → any (is_cut_off t) 0 n ≡ true
   cut-stays m zero h from = let e : m ≡ 0 = omega arith in ap (any (is_cut_off t) 0) (sym e) ∙ h
   cut-stays m (suc n) h from =
-      elim (last_or_before m n from) [
+      elim (next_or_within m n from) [
         | inl e ↦ ap (any (is_cut_off t) 0) (sym e) ∙ h
         | inr before ↦ cut-next n ∙ or_left _ _ (cut-stays m n h before)
       ]
@@ -267,7 +263,7 @@ module _ (t : Trace) where
         cut-next 0 ∙ or_from _ _ cut-first (ap (λ b. b && was_idle t 0) (in-unlost s 0 h)),
       )
   was_idle-in_stretch s (suc n) h =
-      elim (last_or_before s n h.from) [
+      elim (next_or_within s n h.from) [
         | inl e ↦
             let starts = subst (λ i. stretch_starts t i ≡ true) e h.starts in (
               was_idle-next (suc n) (in-unreset s (suc n) h) ∙ or_right _ _ (starts-idle (suc n) starts),

@@ -1,6 +1,6 @@
 -- Lines and rules differ in their names, so that each is found by its name.
 use Rattle.std.proofs.Common.{◌≡◌, ℕ, ◌<◌, ◌≤◌, Bool, true, false, not, List, [], ◌∷◌, map, refl, sym, ◌∙◌, ap, arith}
-use Rattle.std.proofs.Common.{inl, inr, ◌⊎◌, get_or, cond}
+use Rattle.std.proofs.Common.{inl, inr, get_or, cond}
 use Rattle.std.specs.Prelude.{Option, None, Some, IfSome, ◌==◌, bytes_eq, decimal, find, nat_lt}
 use Rattle.std.specs.Fmt.{digits}
 use Rattle.std.specs.List.{range_with_len}
@@ -15,7 +15,7 @@ use Rattle.vme_trace.specs.Names.{two_digits, line_name, line_named, is_line_nam
 use Rattle.vme_trace.specs.Names.{is_rule_name}
 use Rattle.vme_trace.specs.declared.rule.Rule.{Rule}
 use Rattle.vme_trace.proofs.EveryRule.{every-rule, same-rule}
-use Rattle.vme_trace.proofs.Ranges.{any-fails, least-is, least-none, least-found, fails-any, clash}
+use Rattle.vme_trace.proofs.Ranges.{any-fails, least-is, least-none, least-found, fails-any, clash, order_of}
 
 -- from 10 on and below 100, decimal texts are two digits: computed
 decimal-below_100 : map (λ n. cond (nat_lt n 10) (two_digits n) (decimal n)) (range_with_len 0 100)
@@ -59,10 +59,6 @@ line_name-later_differs n m before below e =
     (not-true _ line_names-differ) (omega arith) below) in
     clash (bytes_eq (line_name n) (line_name m)) (same-bytes_eq _ _ e)
     (any-fails (λ k. bytes_eq (line_name k) (line_name m)) 0 m n (not-true _ alone) (omega arith) before)
-
--- n is before m, m itself, or after it
-order_of : (n m : ℕ) → (n < m) ⊎ ((n ≡ m) ⊎ (m < n))
-order_of n m = grind arith
 
 -- lines with the same name are the same
 pub line_name-injective : (n m : ℕ) → n < line_count → m < line_count → line_name n ≡ line_name m → n ≡ m

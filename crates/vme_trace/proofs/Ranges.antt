@@ -1,7 +1,7 @@
 -- Laws of the searches over a range, from f on and before n.
 use Rattle.std.proofs.Common.{◌≡◌, ℕ, zero, suc, ◌+◌, ◌<◌, ◌≤◌, Bool, true, false, ◌&&◌, ◌||◌, not, refl, sym, ◌∙◌, ap}
 use Rattle.std.proofs.Common.{arith, add-one, inl, inr, ◌⊎◌, cond, subst, [], ◌∷◌, ◌++◌, append_assoc, append-nil}
-use Rattle.std.specs.Prelude.{Option, None, Some, nat_le}
+use Rattle.std.specs.Prelude.{Option, None, Some, nat_le, ◌==◌}
 use Rattle.std.specs.Option.{is_some}
 use Rattle.std.proofs.lemmas.Bool.Decides.{nat_tests}
 use Rattle.std.proofs.lemmas.Bool.{and_parts, and_right, cases_Bool, le-leb, leb-true, lt-leb, or_parts}
@@ -34,6 +34,22 @@ any-suc_holds p f n i a in_range below h rest = grind (arith, nat_tests)
 any-suc_fails : (p : ℕ → Bool) (f n i : ℕ) (a : Bool) → (a || (nat_le f n && p n)) ≡ false → f ≤ i → i < suc n
     → (a ≡ false → i < n → p i ≡ false) → p i ≡ false
 any-suc_fails p f n i a none in_range below rest = grind (arith, nat_tests)
+
+-- a number up to n + 1 is n + 1, or up to n
+pub next_or_within : (m n : ℕ) → m ≤ suc n → (m ≡ suc n) ⊎ (m ≤ n)
+next_or_within m n h = grind arith
+
+-- of two numbers, one is below the other, or they are equal
+pub order_of : (m n : ℕ) → (m < n) ⊎ ((m ≡ n) ⊎ (n < m))
+order_of m n = grind arith
+
+-- a number isn't equal to a greater one
+pub eq-fails_below : (m n : ℕ) → m < n → (m == n) ≡ false
+eq-fails_below m n h = grind (arith, nat_tests)
+
+-- a number isn't equal to a lesser one
+pub eq-fails_above : (m n : ℕ) → n < m → (m == n) ≡ false
+eq-fails_above m n h = grind (arith, nat_tests)
 
 -- a number before n + 1 is n, or before it
 pub last_or_before : (n i : ℕ) → i < suc n → (i ≡ n) ⊎ (i < n)
@@ -340,16 +356,13 @@ unfolding any
 any-split p f zero zero a b = refl
 any-split p f (suc m) zero a b = absurd (omega arith)
 any-split p f m (suc n) a b =
-    elim (same_or_below m n b) [
+    elim (next_or_within m n b) [
       | inl e ↦ subst (λ k. any p f (suc n) ≡ (any p f k || any p k (suc n))) (sym e)
           (or_false (any p f (suc n)) (any p (suc n) (suc n)) (any_after p (suc n)))
       | inr c ↦ rw (any-split p f m n a c) (regroup (any p f m) (any p m n) (nat_le f n) (nat_le m n) (p n)
           (le-leb f n (omega arith)) (le-leb m n c))
     ]
   where
-    same_or_below : (m n : ℕ) → m ≤ suc n → (m ≡ suc n) ⊎ (m ≤ n)
-    same_or_below m n h = grind arith
-
     any_after : (p : ℕ → Bool) (m : ℕ) → any p m m ≡ false
     any_after p m = fails-any p m m (λ i a b. absurd (omega arith))
 
@@ -402,7 +415,7 @@ those-split p f m zero a b =
     subst (λ k. those p f 0 ≡ those p f k ++ those p k 0) (sym e)
     (sym (ap (λ xs. those p f 0 ++ xs) (those-none p 0 0 (any-empty p 0)) ∙ append-nil (those p f 0)))
 those-split p f m (suc n) a b =
-    elim (same_or_below m n b) [
+    elim (next_or_within m n b) [
       | inl e ↦ subst (λ k. those p f (suc n) ≡ those p f k ++ those p k (suc n)) (sym e)
           (sym (ap (λ xs. those p f (suc n) ++ xs)
           (those-none p (suc n) (suc n) (fails-any p (suc n) (suc n) (λ i x y. absurd (omega arith))))
@@ -410,9 +423,6 @@ those-split p f m (suc n) a b =
       | inr c ↦ by_last (p n) refl c (those-split p f m n a c)
     ]
   where
-    same_or_below : (m n : ℕ) → m ≤ suc n → (m ≡ suc n) ⊎ (m ≤ n)
-    same_or_below m n h = grind arith
-
     by_last : (last : Bool) → p n ≡ last → m ≤ n → those p f n ≡ those p f m ++ those p m n → those p f (suc n)
         ≡ those p f m ++ those p m (suc n)
     by_last true e c earlier =

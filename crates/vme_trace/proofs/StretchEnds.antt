@@ -1,6 +1,6 @@
 -- Where a stretch ends, which levels are known within it, and what is broken at its end.
 use Rattle.std.proofs.Common.{lit<, lit≤, ◌≡◌, ℕ, zero, suc, ◌+◌, ◌<◌, ◌≤◌, Bool, true, false, ◌&&◌, not, List}
-use Rattle.std.proofs.Common.{refl, sym, ◌∙◌, ap, arith, inl, inr, ◌⊎◌}
+use Rattle.std.proofs.Common.{refl, sym, ◌∙◌, ap, arith, inl, inr}
 use Rattle.std.specs.Prelude.{Option, None, Some, slice_get, ◌==◌, nat_le, unwrap_or}
 use Rattle.std.proofs.lemmas.Bool.Decides.{nat_tests}
 use Rattle.std.proofs.lemmas.Bool.{and_from, not-false, not-true, or_parts, cases_lt, eq-eqb}
@@ -17,7 +17,7 @@ use Rattle.vme_trace.specs.declared.step.Step.{Step}
 use Rattle.vme_trace.specs.declared.rule.Rule.{Rule}
 use Rattle.vme_trace.specs.declared.rule.Rule.TheVariants.{U1}
 use Rattle.vme_trace.specs.declared.verdict.Break.{Break}
-use Rattle.vme_trace.proofs.Ranges.{any-fails, least-is, least-found, least-none-any, clash}
+use Rattle.vme_trace.proofs.Ranges.{any-fails, least-is, least-found, least-none-any, clash, next_or_within}
 use Rattle.vme_trace.proofs.OpenTransfers.{ReadsStrobes}
 use Rattle.vme_trace.proofs.Changing.{slots-kept}
 
@@ -133,10 +133,6 @@ reads_strobes t s idle = record {
     known_unless false true h k = absurd (cc)
     known_unless false false h k = absurd (cc)
 
--- an instant up to k + 1 is k + 1, or up to k
-last_or_before : (j k : ℕ) → j ≤ suc k → (j ≡ suc k) ⊎ (j ≤ k)
-last_or_before j k h = grind arith
-
 -- the first break before j is also the first break before a later k
 pub break_before-stays : (t : Trace) (stretch : Stretch) (rules : List Rule) (b : Break) (j k : ℕ)
     → break_before t stretch
@@ -144,7 +140,7 @@ pub break_before-stays : (t : Trace) (stretch : Stretch) (rules : List Rule) (b 
 unfolding break_before
 break_before-stays t stretch rules b j zero first order = let e : j ≡ 0 = omega arith in rw e at first
 break_before-stays t stretch rules b j (suc k) first order =
-    elim (last_or_before j k order) [
+    elim (next_or_within j k order) [
       | inl e ↦ rw e at first
       | inr before ↦ rw (break_before-stays t stretch rules b j k first before) refl
     ]
