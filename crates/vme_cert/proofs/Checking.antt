@@ -11,7 +11,7 @@ use Rattle.std.proofs.lemmas.Option.{slice_get_read, slice_get_within, same_Some
 use Rattle.std.proofs.Math.Seq.{get_or-append_seam}
 use Rattle.std.proofs.lemmas.Bool.{lt-ltb, le-ltb, and_parts, and_right, not-false, or_from, or_right}
 use Rattle.vme_trace.proofs.JudgedStretches.{AreInOrder, starts_before_end, ends_within, AreInOrder-judged_stretches}
-use Rattle.vme_trace.proofs.JudgedStretches.{stretch_unlost}
+use Rattle.vme_trace.proofs.JudgedStretches.{stretch_unlost, IsStretchOf-first}
 use Rattle.vme_trace.proofs.JudgedStretches.{stretch_unreset, awaits-first, awaits-next, busy-no_start, end-after}
 use Rattle.vme_trace.proofs.JudgedStretches.{end-within, reset-unlost_at, stretch_reset, judged_stretches-after_first}
 use Rattle.vme_trace.proofs.JudgedStretches.{stretches_after-next}
@@ -82,12 +82,6 @@ module _ (t : Trace) where
   unfolding rows_of_stretch
   rows_of_stretch-past stretch limit h = rw (le-ltb stretch.start limit h) refl
 
-  -- the first of stretches that follow one another is one of the recording
-  IsStretchOf-first : (stretch : Stretch) (stretches : List Stretch) → AreInOrder t (stretch ∷ stretches)
-      → IsStretchOf t stretch
-  IsStretchOf-first stretch [] order = order
-  IsStretchOf-first stretch (next ∷ stretches) order = order.0
-
   -- if the limit is in the first stretch, those after it aren't listed
   rows_of_stretches-past : (stretch : Stretch) (stretches : List Stretch) (limit : ℕ)
       → AreInOrder t (stretch ∷ stretches)
@@ -98,7 +92,7 @@ module _ (t : Trace) where
       ap (λ (rows : List Row). rows ++ flat_map (rows_of_stretch t limit) stretches)
       (rows_of_stretch-past next limit (omega (arith, h, order.2)))
       ∙ rows_of_stretches-past next stretches limit order.3
-      (omega (arith, h, order.2, starts_before_end t next (IsStretchOf-first next stretches order.3)))
+      (omega (arith, h, order.2, starts_before_end t next (IsStretchOf-first t next stretches order.3)))
 
   -- the least break of a stretch comes after its start, and at its end at the latest
   least_break-within_stretch : (stretch : Stretch) (b : Break) → IsStretchOf t stretch → least_break t stretch all_rules
@@ -162,7 +156,7 @@ module _ (t : Trace) where
           let within : stretch.end < last_instant t + 1 = omega (
             arith,
             order.2,
-            (IsStretchOf-first next stretches order.3).within,
+            (IsStretchOf-first t next stretches order.3).within,
           ) in
           let same : nat_lt stretch.end limit ≡ nat_lt stretch.end (last_instant t + 1) = lt-ltb stretch.end limit below
           ∙ sym (lt-ltb stretch.end (last_instant t + 1) within) in

@@ -48,7 +48,7 @@ use Rattle.vme_dtb.proofs.HandshakeBreaks.{is_answer-unanswered, handshake_fault
 use Rattle.vme_dtb.proofs.HandshakeMeaning.{Holds}
 use Rattle.vme_dtb.proofs.HandshakeInstants.{Holds-at, memory_at}
 use Rattle.vme_dtb.proofs.OpenState.{in_transfer-is_within}
-use Rattle.vme_dtb.proofs.StepFacts.{old, new, first_of-answer_fall, is_judged-next, rises-between}
+use Rattle.vme_dtb.proofs.StepFacts.{old, new, first_of-answer_fall, is_judged-next, rises-between, cond-same}
 use Rattle.vme_dtb.proofs.StepFacts.{transfer_starts-between}
 use Rattle.vme_dtb.proofs.StillSteps.{machine_step-dtb_next}
 
@@ -113,13 +113,10 @@ module _ (t : Trace) (stretch : Stretch) (facts : IsStretch t stretch) (n : ℕ)
   answer_line-answer_in : answer_line t stretch (suc n) ≡ answer_in within seen
   unfolding answer_line
   answer_line-answer_in =
-      same_answer (is_answer t stretch (suc n)) (is_unanswered within && is_some seen.answer_fall)
+      cond-same (is_answer t stretch (suc n)) (is_unanswered within && is_some seen.answer_fall)
       (least (λ l. is_answer_line l && falls t l (suc n)) 0 line_count) seen.answer_fall
       (is_answer-unanswered t stretch facts.reads n from before m holds) least-answer_fall
       ∙ cond-answer_line (is_unanswered within) seen.answer_fall
-    where
-      same_answer : (a b : Bool) (o q : Option ℕ) → a ≡ b → o ≡ q → cond a o None ≡ cond b q None
-      same_answer a b o q e f = rw (e, f) refl
 
   -- the data of a transfer at n + 1 is that after the step if a transfer starts there, else that before it
   data_at-lanes_at : data_at t stretch (suc n) ≡ lanes_at

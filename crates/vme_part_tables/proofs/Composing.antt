@@ -170,7 +170,7 @@ pub outcome_in-entry : (t : TableValue) (k : ℕ) (e : TableEntry) → slice_get
 outcome_in-entry t k e h = rw h refl
 
 -- without an entry the run ends in k at once
-outcome_in-past : (t : TableValue) (k : ℕ) → slice_get t.entries k ≡ None → outcome_in t k ≡ ended_in k
+pub outcome_in-past : (t : TableValue) (k : ℕ) → slice_get t.entries k ≡ None → outcome_in t k ≡ ended_in k
 outcome_in-past t k h = rw h refl
 
 -- what holds of each entry holds of the entry e with the index k

@@ -18,7 +18,7 @@ use Rattle.vme_part_tables.specs.Pruned.{AreCounts, KeepsWays, IsKept, KeptGoOn,
 use Rattle.vme_part_tables.specs.Pruned.{node_kept}
 use Rattle.vme_part_tables.specs.Pruned.{nodes_kept, table_kept}
 use Rattle.vme_part_tables.proofs.Walking.{run_from_here, run_from_memory, run_from_past}
-use Rattle.vme_part_tables.proofs.Composing.{outcome_in-entry}
+use Rattle.vme_part_tables.proofs.Composing.{outcome_in-entry, outcome_in-past}
 
 -- of no nodes none is kept
 kept_count-none : (bs : List Bool) → kept_count (take 0 bs) ≡ 0
@@ -182,10 +182,6 @@ module _ (m : ℕ) where
       by_place (inr h) =
           inl (rw (next_kept-node bs w h) (omega (arith, kept_count-before_kept bs (w - m) (k h).0 (k h).1)))
 
--- a run from a memory that has no entry ends there
-outcome_in-no_entry : (t : TableValue) (k : ℕ) → slice_get t.entries k ≡ None → outcome_in t k ≡ ended_in k
-outcome_in-no_entry t k h = rw h refl
-
 -- all nodes of the table t that a run reaches are kept
 module _ (t : TableValue) (keeps : List Bool) (c : KeepsWays (length t.entries) keeps t.entries t.nodes) where
   -- an entry with its way among the kept nodes
@@ -216,7 +212,7 @@ module _ (t : TableValue) (keeps : List Bool) (c : KeepsWays (length t.entries) 
       by_place (inr past) =
           let none : slice_get (map on t.entries) k ≡ None
           = slice_get-map on t.entries k ∙ ap (option_map on) past.1 in
-          outcome_in-no_entry (table_kept keeps t) k none ∙ sym (outcome_in-no_entry t k past.1)
+          outcome_in-past (table_kept keeps t) k none ∙ sym (outcome_in-past t k past.1)
 
   -- the kept nodes are no more than all
   length-nodes_kept_at_most : length (nodes_kept (length t.entries) keeps t.nodes) ≤ length t.nodes

@@ -34,6 +34,7 @@ use Rattle.vme_listing.specs.declared.row.Row.TheVariants.{OpenTenure, Tenure, T
 use Rattle.vme_split.specs.Split.{bit_of, ShowNumber, address_line, ShowsModifier, ShowsAddress, IsOfItsCode}
 use Rattle.vme_split.proofs.Unbroken.{IsUnbroken, is_broken-unbroken}
 use Rattle.vme_split.proofs.EachRow.{All-rows_before, All-tenure_rows, All-cycle_rows_start, All-transfer_rows_any}
+use Rattle.vme_split.proofs.Known.{cycle_starts-after}
 
 -- ---- a number by its bits
 
@@ -231,18 +232,13 @@ class_of-free v k h = let found = by (is_low (level_at v IACK)) (has_known_modif
 
 module _ (t : Trace) (stretch : Stretch) (end : ℕ) (most : end ≤ stretch.end)
     (unbroken : IsUnbroken t stretch end) where
-  -- a cycle starts after the start of the stretch
-  cycle_starts-after : (i : ℕ) → cycle_starts t stretch i ≡ true → stretch.start < i
-  unfolding cycle_starts
-  cycle_starts-after i e = grind (arith, nat_tests)
-
   -- a line that a cycle needs is known as it starts
   known-needed : (i : ℕ) → i < end → cycle_starts t stretch i ≡ true → (l : ℕ) → l < 50 → is_needed (levels_at t i) l
       ≡ true → known t l i ≡ true
   unfolding is_broken
   known-needed i before starts l few needed = by (cycle_starts t stretch i) (is_needed (levels_at t i) l) (known t l i)
-      starts needed (is_broken-unbroken t stretch end most unbroken rule.U2 i l (cycle_starts-after i starts) before
-      (omega (arith, few))
+      starts needed (is_broken-unbroken t stretch end most unbroken rule.U2 i l
+      (cycle_starts-after t stretch i starts) before (omega (arith, few))
       (bus_line_exists t.opening.slots l few))
     where
       by : (a b c : Bool) → a ≡ true → b ≡ true → (a && b && not c) ≡ false → c ≡ true

@@ -2,7 +2,6 @@
 use Rattle.std.proofs.Common.{lit<, ◌≡◌, ℕ, ◌+◌, ◌<◌, ◌≤◌, Bool, true, false, ◌&&◌, not, if◌then◌else◌, refl, sym, ◌∙◌}
 use Rattle.std.proofs.Common.{ap, arith, All}
 use Rattle.std.specs.Prelude.{Option, None, Some, ◌==◌}
-use Rattle.std.proofs.lemmas.Bool.Decides.{nat_tests}
 use Rattle.vme_trace.specs.Instants.{least}
 use Rattle.vme_trace.specs.LineNumbers.{AS, IACK, WRITE}
 use Rattle.vme_trace.specs.Cycle.{class_of, has_known_modifier, is_block, modifier_of, highest_address}
@@ -23,7 +22,7 @@ use Rattle.vme_listing.specs.declared.row.Direction.TheVariants.{Read, Write}
 use Rattle.vme_listing.specs.declared.row.Row.TheVariants.{Transfer, PendingTransfer}
 use Rattle.vme_split.specs.Split.{ShowsAcknowledge, ShowsDirection}
 use Rattle.vme_split.proofs.Unbroken.{IsUnbroken, is_broken-unbroken}
-use Rattle.vme_split.proofs.Known.{IsWatched, high-watched}
+use Rattle.vme_split.proofs.Known.{IsWatched, high-watched, cycle_starts-after}
 use Rattle.vme_split.proofs.Transfers.{transfer_starts-after}
 use Rattle.vme_split.proofs.EachRow.{All-rows_before, All-tenure_rows, All-cycle_rows_any, All-cycle_rows_start}
 use Rattle.vme_split.proofs.EachRow.{All-transfer_rows, All-transfer_rows_any}
@@ -65,11 +64,6 @@ IsWatched-IACK = (lit< tt, λ slots. refl)
 
 module _ (t : Trace) (stretch : Stretch) (is : IsStretchOf t stretch) (end : ℕ) (within : stretch.start < end)
     (most : end ≤ stretch.end) (unbroken : IsUnbroken t stretch end) where
-  -- a cycle starts after the start of the stretch
-  cycle_starts-after : (i : ℕ) → cycle_starts t stretch i ≡ true → stretch.start < i
-  unfolding cycle_starts
-  cycle_starts-after i e = grind (arith, nat_tests)
-
   -- the row of a cycle is of an interrupt acknowledge just if IACK is low as the cycle starts
   ShowsAcknowledge-cycle_row : (i : ℕ) → i < end → cycle_starts t stretch i ≡ true → (e : Option ℕ) (c : Class)
       → class_of (levels_at t i)
@@ -77,15 +71,15 @@ module _ (t : Trace) (stretch : Stretch) (is : IsStretchOf t stretch) (end : ℕ
   unfolding low
   ShowsAcknowledge-cycle_row i before starts e class.I of = is_low-acknowledge (levels_at t i) of
   ShowsAcknowledge-cycle_row i before starts e class.S of = high-watched t stretch is IACK IsWatched-IACK i
-      (omega (arith, cycle_starts-after i starts))
+      (omega (arith, cycle_starts-after t stretch i starts))
       (omega arith) ∙ ap not (is_low-no_acknowledge (levels_at t i)
       (λ h. let same : class.S ≡ class.I = sym of ∙ h in cc))
   ShowsAcknowledge-cycle_row i before starts e class.K of = high-watched t stretch is IACK IsWatched-IACK i
-      (omega (arith, cycle_starts-after i starts))
+      (omega (arith, cycle_starts-after t stretch i starts))
       (omega arith) ∙ ap not (is_low-no_acknowledge (levels_at t i)
       (λ h. let same : class.K ≡ class.I = sym of ∙ h in cc))
   ShowsAcknowledge-cycle_row i before starts e class.F of = high-watched t stretch is IACK IsWatched-IACK i
-      (omega (arith, cycle_starts-after i starts))
+      (omega (arith, cycle_starts-after t stretch i starts))
       (omega arith) ∙ ap not (is_low-no_acknowledge (levels_at t i)
       (λ h. let same : class.F ≡ class.I = sym of ∙ h in cc))
 

@@ -24,7 +24,7 @@ use Rattle.vme_split.proofs.Answering.{strobes_high-at_transfer}
 use Rattle.vme_split.proofs.EachRow.{All-rows_before, All-tenure_rows, All-cycle_rows_any, All-transfer_rows}
 
 -- the first part of a conjunction of three that holds is true
-and-first_of_three : (a b c : Bool) → (a && b && c) ≡ true → a ≡ true
+pub and-first_of_three : (a b c : Bool) → (a && b && c) ≡ true → a ≡ true
 and-first_of_three true b c h = refl
 and-first_of_three false b c h = absurd (cc)
 

@@ -224,8 +224,10 @@ module _ (v : Levels) (p q : ℕ → Bool) (n : ℕ)
       let here : p c.line ≡ q c.line = alike c.line (rw (eq-eqb c.line c.line refl) refl) in
       first_changed-least_here c cs (q c.line) refl exists (λ e. here ∙ e)
       (fails-any p 0 c.line
-      (λ l a b. fails l (rw (eq-fails_above c.line l b, is_changed-below v (c.line + 1) l cs parts.1 (lt-next l c.line b))
-      refl)))
+      (λ l a b. fails l (rw (
+        eq-fails_above c.line l b,
+        is_changed-below v (c.line + 1) l cs parts.1 (lt-next l c.line b),
+      ) refl)))
       (λ e. first_changed-least_alike (c.line + 1) cs parts.1 (fails-unchanged_rest c cs fails (here ∙ e))
       (λ l k. alike l (or_right (c.line == l) (is_changed cs l) k)))
 

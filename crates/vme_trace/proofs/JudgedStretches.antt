@@ -33,7 +33,7 @@ greatest-or_zero p (suc n) = by_test (nat_le 0 n && p n) (greatest-or_zero p n)
     by_test false h = omega arith
 
 -- an instant n from s on is s, or after it
-same_or_after : (s n : ℕ) → s ≤ n → (s ≡ n) ⊎ (s < n)
+pub same_or_after : (s n : ℕ) → s ≤ n → (s ≡ n) ⊎ (s < n)
 same_or_after s n h = grind arith
 
 module _ (t : Trace) where
@@ -509,6 +509,12 @@ AreInOrder t (stretch ∷ []) = IsStretchOf t stretch
 AreInOrder t (stretch ∷ next ∷ stretches) = IsStretchOf t stretch × (is_reset_at t stretch.end ≡ true)
     × (stretch.end < next.start)
     × AreInOrder t (next ∷ stretches)
+
+-- the first of stretches that follow one another is one of the recording
+pub IsStretchOf-first : (t : Trace) (stretch : Stretch) (stretches : List Stretch) → AreInOrder t (stretch ∷ stretches)
+    → IsStretchOf t stretch
+IsStretchOf-first t stretch [] order = order
+IsStretchOf-first t stretch (next ∷ stretches) order = order.0
 
 module _ (t : Trace) where
   -- the stretches that start from f on are in order; k is how many instants are left
