@@ -20,9 +20,9 @@ use Rattle.vme_trace.proofs.OpenTransfers.{ReadsStrobes}
 use Rattle.vme_trace.proofs.Ranges.{fails-any, least-alike, least-is, least-none, eq-fails_below}
 use Rattle.vme_trace.proofs.Changing.{bus_line_exists}
 use Rattle.vme_dtb.specs.StabilityRules.{lacks, unknown_address, unknown_direction}
-use Rattle.vme_dtb.proofs.StabilityMeaning.{is_judged-next, cycle_starts-between, transfer_starts-between}
+use Rattle.vme_dtb.proofs.StabilityMeaning.{cycle_starts-between}
 use Rattle.vme_dtb.proofs.Needed.{needs_of-below}
-use Rattle.vme_dtb.proofs.StepFacts.{and-false_test}
+use Rattle.vme_dtb.proofs.StepFacts.{and-false_test, is_judged-next, transfer_starts-between}
 
 -- the least line with p under a condition b is that with p if b holds, else none
 pub least-condition : (b : Bool) (p : ℕ → Bool) → least (λ l. b && p l) 0 line_count
@@ -77,7 +77,7 @@ module _ (t : Trace) (stretch : Stretch) (reads : ReadsStrobes t stretch) (n : �
   breaks-U2 l =
       unknown-by_tests (is_judged stretch (suc n)) (has_line t.opening.slots l) (cycle_starts t stretch (suc n))
       (falls_between old new AS) (is_within (needs_of new) l) (is_known_on new l)
-      (is_judged-next t stretch reads n from before) (cycle_starts-between t stretch reads n from before)
+      (is_judged-next t n stretch from before) (cycle_starts-between t stretch reads n from before)
       (λ e. bus_line_exists t.opening.slots l (omega (arith, needs_of-below new l e)))
 
   -- the least line that breaks U2 is the least unknown line that the starting cycle needs
@@ -94,9 +94,9 @@ module _ (t : Trace) (stretch : Stretch) (reads : ReadsStrobes t stretch) (n : �
   -- U3 is broken on WRITE* exactly if a transfer starts and WRITE* is unknown
   breaks-U3 : breaks t stretch U3 (suc n) WRITE ≡ (starts_between old new && not (is_known_on new WRITE))
   unfolding breaks is_broken known
-  breaks-U3 = rw (transfer_starts-between t stretch reads n from before)
+  breaks-U3 = rw (transfer_starts-between t n stretch from before)
       (direction-on_line (is_judged stretch (suc n)) (starts_between old new) (not (is_known_on new WRITE))
-      (is_judged-next t stretch reads n from before))
+      (is_judged-next t n stretch from before))
 
   -- the least line that breaks U3 is WRITE*, if it is unknown as a transfer starts
   pub least-U3 : least (breaks t stretch U3 (suc n)) 0 line_count ≡ unknown_direction old new

@@ -37,10 +37,11 @@ use Rattle.vme_dtb.specs.StabilityRules.{observation_of, stability_rules, undriv
 use Rattle.vme_dtb.specs.declared.holding.Holding.{Holding}
 use Rattle.vme_dtb.proofs.AskedLines.{least-condition}
 use Rattle.vme_dtb.proofs.ChangedLines.{same_level-refl}
-use Rattle.vme_dtb.proofs.StabilityMeaning.{Holds, falls-between, strobes_high_in-is_closed, is_judged-next}
-use Rattle.vme_dtb.proofs.StabilityMeaning.{strobe_rises-between, transfer_starts-between}
+use Rattle.vme_dtb.proofs.StabilityMeaning.{Holds, strobes_high_in-is_closed}
+use Rattle.vme_dtb.proofs.StabilityMeaning.{strobe_rises-between}
 use Rattle.vme_dtb.proofs.Lasting.{none-next}
 use Rattle.vme_dtb.proofs.Progressing.{keeps_data-by_state, is_closed, kept-cond, is_writing-entered}
+use Rattle.vme_dtb.proofs.StepFacts.{falls-between, is_judged-next, transfer_starts-between}
 
 -- lines that a transfer moves are from 159 on, the first data line
 data_line-from : (a b c d e : Bool) (l : ℕ)
@@ -190,7 +191,7 @@ module _ (t : Trace) (stretch : Stretch) (reads : ReadsStrobes t stretch) (n : �
   -- a strobe falls at n + 1 exactly if one falls between the levels
   strobe_falls-between : strobe_falls t (suc n) ≡ strobe_falls_between old new
   strobe_falls-between =
-      rw (falls-between t stretch reads n from before DS0, falls-between t stretch reads n from before DS1) refl
+      rw (falls-between t n DS0, falls-between t n DS1) refl
 
   -- U4 is broken on a line exactly if a strobe falls in a write without an answer, and the line is moved and unknown
   breaks-U4 : (l : ℕ) → breaks t stretch U4 (suc n) l ≡ ((strobe_falls_between old new && writes_now m old new)
@@ -200,7 +201,7 @@ module _ (t : Trace) (stretch : Stretch) (reads : ReadsStrobes t stretch) (n : �
       undriven-by_tests (is_judged stretch (suc n)) (has_line t.opening.slots l) (is_selected new l) (is_known_on new l)
       (strobe_falls t (suc n)) (in_transfer t stretch is_asked (suc n)) (strobe_falls_between old new)
       (writes_now m old new)
-      (is_judged-next t stretch reads n from before) strobe_falls-between in_transfer-writes_now
+      (is_judged-next t n stretch from before) strobe_falls-between in_transfer-writes_now
       (λ e. has_line-data t.opening.slots l (is_selected-from new l e)
       (is_selected-to new l e))
 
@@ -256,7 +257,7 @@ module _ (t : Trace) (stretch : Stretch) (reads : ReadsStrobes t stretch) (n : �
   -- an answer line falls at n + 1 exactly if one falls between the levels
   answer_falls-between : answer_falls t (suc n) ≡ answer_between old new
   answer_falls-between =
-      rw (falls-between t stretch reads n from before DTACK, falls-between t stretch reads n from before BERR) refl
+      rw (falls-between t n DTACK, falls-between t n BERR) refl
 
   -- a transfer that lasts to n + 1 is answered up to it if it was, or if an answer falls there
   is_answered-next : (i : ℕ) (w a : Bool) → IsIn t stretch (suc n) i w a → is_answered t stretch i (suc n + 1)
@@ -271,7 +272,7 @@ module _ (t : Trace) (stretch : Stretch) (reads : ReadsStrobes t stretch) (n : �
   started_before i w a o low =
       elim (next_or_within i n o.within) [
         | inl e ↦ absurd (clash (strobes_high_in old) (and_parts (strobes_high_in old) (strobe_low_in new)
-            (sym (transfer_starts-between t stretch reads n from before) ∙ (rw e at o.starts))).0 low)
+            (sym (transfer_starts-between t n stretch from before) ∙ (rw e at o.starts))).0 low)
         | inr earlier ↦ earlier
       ]
 
@@ -349,7 +350,7 @@ module _ (t : Trace) (stretch : Stretch) (reads : ReadsStrobes t stretch) (n : �
       (not (same_level (level_at old l) (level_at new l))) (in_transfer t stretch is_held (suc n))
       (keeps_data m old new)
       (is_low (level_at old WRITE))
-      (is_judged-next t stretch reads n from before) in_transfer-keeps_data (rw (k, d) refl)
+      (is_judged-next t n stretch from before) in_transfer-keeps_data (rw (k, d) refl)
       ∙ rw (slots_at t n, slots_at t (suc n)) refl
 
   -- a changed data line is below `line_count`

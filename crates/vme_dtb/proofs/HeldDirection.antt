@@ -16,8 +16,8 @@ use Rattle.vme_trace.proofs.OpenTransfers.{ReadsStrobes, suc-sub-one}
 use Rattle.vme_dtb.specs.StabilityRules.{direction_turned, keeps_direction, observation_of, turned_fault}
 use Rattle.vme_dtb.specs.declared.holding.Holding.{Holding}
 use Rattle.vme_dtb.proofs.AskedLines.{least-WRITE}
-use Rattle.vme_dtb.proofs.StabilityMeaning.{Holds, holds_direction, is_judged-next, keeps_direction-any}
-use Rattle.vme_dtb.proofs.StepFacts.{and-false_test}
+use Rattle.vme_dtb.proofs.StabilityMeaning.{Holds, holds_direction, keeps_direction-any}
+use Rattle.vme_dtb.proofs.StepFacts.{and-false_test, is_judged-next}
 
 -- S2 on WRITE* by equal tests, if the instant is judged
 direction-on_line : (j a b c d : Bool) → j ≡ true → a ≡ d → b ≡ c → (j && true && (true && a && b)) ≡ (c && d)
@@ -52,7 +52,7 @@ module _ (t : Trace) (stretch : Stretch) (reads : ReadsStrobes t stretch) (n : �
       direction-on_line (is_judged stretch (suc n)) (has_edge t WRITE (suc n))
       (any (holds_direction t stretch (suc n)) (stretch.start + 1)
       (suc n)) (keeps_direction m old new) (direction_turned old new)
-      (is_judged-next t stretch reads n from before) has_edge-WRITE
+      (is_judged-next t n stretch from before) has_edge-WRITE
       (sym (keeps_direction-any t stretch reads n from before m holds))
 
   -- the least line that breaks S2 is that of the machine's fault

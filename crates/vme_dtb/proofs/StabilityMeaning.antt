@@ -12,14 +12,14 @@ use Rattle.std.proofs.Math.Bool.{and-true, and_assoc}
 use Rattle.vme_trace.specs.LineNumbers.{AS, DS0, DS1, WRITE}
 use Rattle.vme_trace.specs.Levels.{Levels, level_at, is_low, is_high, is_known}
 use Rattle.vme_trace.specs.Trace.{Trace, levels_at}
-use Rattle.vme_trace.specs.Signals.{low, high, falls, rises}
-use Rattle.vme_trace.specs.Judged.{Stretch, is_judged}
+use Rattle.vme_trace.specs.Signals.{low, high, rises}
+use Rattle.vme_trace.specs.Judged.{Stretch}
 use Rattle.vme_trace.specs.Transfers.{strobe_rises, strobes_high, transfer_starts, is_answer}
 use Rattle.vme_trace.specs.Verdict.{break_before}
 use Rattle.vme_trace.specs.Cycles.{cycle_starts, cycle_runs}
 use Rattle.vme_trace.specs.declared.level.Level.{Level}
 use Rattle.vme_trace.specs.declared.level.Level.TheVariants.{Low, High, Unknown}
-use Rattle.vme_trace.proofs.OpenTransfers.{suc-sub-one, is_judged-holds, ReadsStrobes}
+use Rattle.vme_trace.proofs.OpenTransfers.{ReadsStrobes}
 use Rattle.vme_trace.proofs.Ranges.{any-step, clash, fails-any, next_or_within}
 use Rattle.vme_monitor.specs.Tracked.{IsTransferPhase}
 use Rattle.vme_monitor.specs.Tracking.{answered_by, is_unanswered, is_writing, tracked}
@@ -34,6 +34,7 @@ use Rattle.vme_dtb.proofs.Progressing.{writes_of-by_strobes, not_risen-start, no
 use Rattle.vme_dtb.proofs.Progressing.{is_closed}
 use Rattle.vme_dtb.proofs.Progressing.{has_risen-passed, was_answered-passed}
 use Rattle.vme_dtb.proofs.Lasting.{none-next, none-empty, none-one, any-kept}
+use Rattle.vme_dtb.proofs.StepFacts.{falls-between, is_judged-next, rises-between, transfer_starts-between}
 
 -- whether the transfer that the step enters, or that was open, has had no answer
 is_unanswered-entered : (p : TransferPhase) (h l w : Bool) → h ≡ is_closed p
@@ -180,33 +181,14 @@ module _ (t : Trace) (stretch : Stretch) where
     abbrev pub new : Levels
     new = levels_at t (suc n)
 
-    -- instant n + 1 is judged
-    pub is_judged-next : is_judged stretch (suc n) ≡ true
-    is_judged-next = is_judged-holds stretch (suc n) (omega arith) before
-
-    -- a line falls at n + 1 exactly if it falls between the levels
-    pub falls-between : (l : ℕ) → falls t l (suc n) ≡ falls_between old new l
-    unfolding falls high low
-    falls-between l = rw (suc-sub-one n) refl
-
-    -- a line rises at n + 1 exactly if it rises between the levels
-    pub rises-between : (l : ℕ) → rises t l (suc n) ≡ rises_between old new l
-    unfolding rises high low
-    rises-between l = rw (suc-sub-one n) refl
-
     -- a strobe rises at n + 1 exactly if one rises between the levels
     pub strobe_rises-between : strobe_rises t (suc n) ≡ strobe_rises_between old new
-    strobe_rises-between = rw (rises-between DS0, rises-between DS1) refl
-
-    -- a transfer starts at n + 1 exactly if one starts between the levels
-    pub transfer_starts-between : transfer_starts t stretch (suc n) ≡ starts_between old new
-    unfolding transfer_starts high low
-    transfer_starts-between = rw (is_judged-next, suc-sub-one n) refl
+    strobe_rises-between = rw (rises-between t n DS0, rises-between t n DS1) refl
 
     -- a cycle starts at n + 1 exactly if AS* falls between the levels
     pub cycle_starts-between : cycle_starts t stretch (suc n) ≡ falls_between old new AS
     unfolding cycle_starts
-    cycle_starts-between = rw (is_judged-next, falls-between AS) refl
+    cycle_starts-between = rw (is_judged-next t n stretch from before, falls-between t n AS) refl
 
     -- both strobes are high exactly if no transfer is open
     pub strobes_high_in-is_closed : (p : TransferPhase) → IsTransferPhase t stretch n p → strobes_high_in old
@@ -271,7 +253,7 @@ module _ (t : Trace) (stretch : Stretch) where
 
     -- the transfer that starts at n + 1 has had no rising strobe
     holds_direction-start : holds_direction (suc n) (suc n) ≡ starts_between old new
-    holds_direction-start = rw (transfer_starts-between, none-empty (strobe_rises t) (suc n + 1))
+    holds_direction-start = rw (transfer_starts-between t n stretch from before, none-empty (strobe_rises t) (suc n + 1))
         (and-true (starts_between old new))
 
     -- whether the lines that a cycle needs are still held at n + 1
@@ -281,7 +263,7 @@ module _ (t : Trace) (stretch : Stretch) where
         and_assoc (awaits_answer m old) (not (rises_between old new AS)) (not (answers_in m old new))
         ∙ sym (any-kept (holds_address n) (holds_address (suc n)) (not (rises t AS (suc n))
         && not (is_answer t stretch (suc n))) (stretch.start + 1) n (omega arith) holds_address-next
-        ∙ rw (rises-between AS, is_answer-answers_in m h, ← h.address) refl)
+        ∙ rw (rises-between t n AS, is_answer-answers_in m h, ← h.address) refl)
 
     -- whether the direction is still held at n + 1
     pub keeps_direction-any : (m : Holding) → Holds n m → keeps_direction m old new ≡ any (holds_direction (suc n))
@@ -338,7 +320,8 @@ module _ (t : Trace) (stretch : Stretch) where
 
     -- where a transfer starts at n + 1, both strobes are high at n
     strobes_high_in-start : transfer_starts t stretch (suc n) ≡ true → strobes_high_in old ≡ true
-    strobes_high_in-start s = (and_parts (strobes_high_in old) (strobe_low_in new) (sym transfer_starts-between ∙ s)).0
+    strobes_high_in-start s = (and_parts (strobes_high_in old) (strobe_low_in new)
+        (sym (transfer_starts-between t n stretch from before) ∙ s)).0
 
     -- whether no strobe has risen up to n + 1 in the transfer that is open
     none_rises-fresh : (m : Holding) → Holds n m → (i : ℕ) → i ≤ suc n → transfer_starts t stretch i ≡ true
