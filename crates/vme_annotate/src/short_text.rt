@@ -1,10 +1,10 @@
 //! A short text that is made without taking memory.
 
-ghost use Rattle.std.specs.Prelude.{◌≡◌, ◌+◌, ◌<◌, ◌≤◌, ◌++◌, [], true, length, decimal};
-ghost use Rattle.std.specs.Fmt.{digit_glyph};
+ghost use Rattle.std.specs.Prelude.{◌≡◌, ◌+◌, ◌≤◌, ◌++◌, [], length, decimal};
 ghost use Rattle.vme_listing.specs.RowText.{hexadecimal};
 
 use std::marker::Model;
+use vme_listing::hexadecimal_digits;
 
 /// The most bytes of a short text.
 pub(crate) const MOST: usize = 256;
@@ -82,26 +82,7 @@ impl ShortText {
         ensures length { length self.new ≡ length self.old + digits }
     {
         let first = 8 - digits;
-        let mut glyphs = [0; 8];
-        let mut start: usize = 8;
-        let mut rest = number;
-        while start > first {
-            start -= 1;
-            glyphs[start] = hexadecimal_digit((rest % 16) as u8);
-            rest /= 16;
-        }
+        let glyphs = hexadecimal_digits(number);
         self.push(&glyphs[first..]);
-    }
-}
-
-/// A digit in base 16.
-fn hexadecimal_digit(value: u8) -> u8
-    requires { value < 16 }
-    ensures { result ≡ digit_glyph true value }
-{
-    if value < 10 {
-        b'0' + value
-    } else {
-        b'A' + value - 10
     }
 }

@@ -1,13 +1,12 @@
 //! The texts that the variables of an annotated dump show.
 
 ghost use Rattle.std.specs.Prelude.{◌≡◌, ◌+◌, ◌≤◌, ◌++◌, length};
-ghost use Rattle.vme_listing.specs.RowText.{address_digits};
 ghost use Rattle.vme_annotation.specs.Shown.{address_text, answer_text, block_text, break_text, data_text};
 ghost use Rattle.vme_annotation.specs.Shown.{direction_text, shown_text, space_text, tenure_text, transfer_text};
 ghost use Rattle.vme_annotation.specs.Shown.{verdict_text};
 
 use crate::short_text::{MOST, ShortText};
-use vme_listing::{AnswerLine, Direction, ListedVerdict, Row, data_digits};
+use vme_listing::{AnswerLine, Direction, ListedVerdict, Row, address_digits, data_digits};
 use vme_trace::{Class, Lanes, Line, Rule, Space};
 
 /// The name of the address space of a cycle with this address modifier code.
@@ -19,19 +18,6 @@ fn space_text(modifier: u8) -> &'static [u8]
         Some(Space::Extended) => b"A32",
         Some(Space::Standard) => b"A24",
         _ => b"A16",
-    }
-}
-
-/// How many digits the address of a cycle has.
-pub(crate) fn address_digits(modifier: u8) -> usize
-    ensures digits { result ≡ address_digits modifier }
-    ensures most { result ≤ 8 }
-{
-    match Space::of(modifier) {
-        Some(Space::Extended) => 8,
-        Some(Space::Standard) => 6,
-        Some(Space::Short) => 4,
-        None => 0,
     }
 }
 

@@ -7,8 +7,7 @@ ghost use Rattle.vme_annotate.specs.TimedRows.{timed, timed_break, timed_end_ins
 
 use crate::listed::TimedListing;
 use crate::short_text::{MOST, ShortText};
-use crate::shown::address_digits;
-use vme_listing::{AnswerLine, Direction, ListedVerdict, Row, data_digits};
+use vme_listing::{AnswerLine, Direction, ListedVerdict, Row, address_digits, data_digits};
 use vme_trace::{Class, Lanes, Line, Rule};
 
 /// The class of a cycle, by its letter.

@@ -1,9 +1,10 @@
--- How the digits of a number follow from those of the number without its last digit.
-use Rattle.std.proofs.Common.{◌≡◌, ℕ, zero, suc, ◌+◌, ◌-◌, ◌/◌, ◌%◌, ◌^◌, ◌<◌, ◌≤◌, [], ◌∷◌, ◌++◌, length, refl, ap}
-use Rattle.std.proofs.Common.{arith, true, length-append}
+-- How the digits of a number follow from those of the number without its last digit, and which are its last ones.
+use Rattle.std.proofs.Common.{◌≡◌, ℕ, zero, suc, ◌+◌, ◌-◌, ◌/◌, ◌%◌, ◌^◌, ◌<◌, ◌≤◌, List, [], ◌∷◌, ◌++◌, length, drop}
+use Rattle.std.proofs.Common.{take, refl, sym, ap, ◌∙◌, arith, true, length-append}
 use Rattle.std.specs.Prelude.{decimal}
 use Rattle.std.specs.Fmt.{digit_glyph}
 use Rattle.std.proofs.lemmas.Fmt.{decimal_step}
+use Rattle.std.proofs.lemmas.List.{drop-append-le, drop_all, take_rest}
 use Rattle.vme_listing.specs.RowText.{hexadecimal}
 
 -- a number of at least 10 has one digit more than the number without its last digit
@@ -23,3 +24,37 @@ pub hexadecimal-no_digits : (k n : ℕ) → k ≤ 0 → hexadecimal k n ≡ []
 unfolding hexadecimal
 hexadecimal-no_digits zero n h = refl
 hexadecimal-no_digits (suc k) n h = absurd (omega arith)
+
+-- a number in k digits has k bytes
+pub length-hexadecimal : (k n : ℕ) → length (hexadecimal k n) ≡ k
+unfolding hexadecimal
+length-hexadecimal zero n = refl
+length-hexadecimal (suc k) n =
+    omega (
+      arith,
+      length-hexadecimal k (n / 16),
+      length-append (hexadecimal k (n / 16)) (digit_glyph true
+          (n % 16) ∷ []),
+    )
+
+-- behind its first digits a number has its last k ones
+drop-hexadecimal : (k total first n : ℕ) → first + k ≡ total → drop first (hexadecimal total n) ≡ hexadecimal k n
+unfolding hexadecimal
+drop-hexadecimal zero total first n e =
+    drop_all first (hexadecimal total n) (omega (arith, e, length-hexadecimal total n))
+drop-hexadecimal (suc k) zero first n e = absurd (omega arith)
+drop-hexadecimal (suc k) (suc total) first n e =
+    let all : first + k ≡ total = omega (arith, e) in
+    drop-append-le first (hexadecimal total (n / 16)) (digit_glyph true (n % 16) ∷ [])
+    (omega (arith, all, length-hexadecimal total (n / 16)))
+    ∙ ap (λ ds. ds ++ digit_glyph true (n % 16) ∷ []) (drop-hexadecimal k total first (n / 16) all)
+
+-- the last k of the eight digits of n in base 16 are those in k digits
+pub last_digits : (k n : ℕ) (glyphs : List ℕ) → k ≤ 8 → glyphs ≡ hexadecimal 8 n
+    → take (8 - (8 - k)) (drop (8 - k) glyphs) ≡ hexadecimal k n
+last_digits k n glyphs within is =
+    let size : length glyphs ≡ 8 = ap length is ∙ length-hexadecimal 8 n in
+    ap (λ m. take (m - (8 - k)) (drop (8 - k) glyphs)) (sym size)
+    ∙ take_rest glyphs (8 - k)
+    ∙ ap (drop (8 - k)) is
+    ∙ drop-hexadecimal k 8 (8 - k) n (omega arith)

@@ -1,6 +1,6 @@
 -- The number whose digits in base 16 are at the start of a text, and the data whose text is there.
 use Rattle.std.proofs.Common.{◌≡◌, ℕ, zero, suc, ◌+◌, ◌*◌, ◌/◌, ◌%◌, ◌^◌, ◌<◌, ◌≤◌, true, false}
-use Rattle.std.proofs.Common.{List, [], ◌∷◌, ◌++◌, drop, get_or, length, take, refl, sym, ap, ◌∙◌, arith, length-append}
+use Rattle.std.proofs.Common.{List, [], ◌∷◌, ◌++◌, drop, get_or, length, take, refl, sym, ap, ◌∙◌, arith}
 use Rattle.std.specs.Prelude.{None, Some, bytes_eq, if◌then◌else◌}
 use Rattle.std.specs.Fmt.{digit_glyph}
 use Rattle.std.proofs.Math.Nat.{pow-le-pow_right, pow-suc}
@@ -13,6 +13,7 @@ use Rattle.vme_trace.specs.declared.data.Lanes.{Lanes}
 use Rattle.vme_listing.specs.Lines.{after_word, are_hexadecimal, hexadecimal_in, is_hexadecimal, lanes_in, lanes_of}
 use Rattle.vme_listing.specs.RowText.{hexadecimal, lanes_text}
 use Rattle.vme_listing.specs.Words.{number_of}
+use Rattle.vme_listing.proofs.Digits.{length-hexadecimal}
 use Rattle.vme_listing.proofs.FrontDigits.{after_word-take, bytes_eq-differs, bytes_eq-refl}
 use Rattle.vme_listing.proofs.Numerals.{number_of-hexadecimal}
 
@@ -44,18 +45,6 @@ are_hexadecimal-not_at [] i within e = absurd (omega arith)
 are_hexadecimal-not_at (byte ∷ word) zero within e = rw e refl
 are_hexadecimal-not_at (byte ∷ word) (suc i) within e =
     and_right (is_hexadecimal byte) (are_hexadecimal word) (are_hexadecimal-not_at word i (omega arith) e)
-
--- a number in k digits has k bytes
-pub length-hexadecimal : (k n : ℕ) → length (hexadecimal k n) ≡ k
-unfolding hexadecimal
-length-hexadecimal zero n = refl
-length-hexadecimal (suc k) n =
-    omega (
-      arith,
-      length-hexadecimal k (n / 16),
-      length-append (hexadecimal k (n / 16)) (digit_glyph true
-          (n % 16) ∷ []),
-    )
 
 -- the i + 1 digits of m are the i digits of m / 16, and then m % 16
 hexadecimal-last_digit : (i m number digit : ℕ) → m / 16 ≡ number → m % 16 ≡ digit

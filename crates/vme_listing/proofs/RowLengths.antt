@@ -30,7 +30,8 @@ use Rattle.vme_listing.specs.declared.row.Row.{Row}
 use Rattle.vme_listing.specs.declared.row.Row.TheVariants.{Start, Reset, OpenTenure, Tenure, AddressedCycle, FreeCycle}
 use Rattle.vme_listing.specs.declared.row.Row.TheVariants.{InterruptCycle, Transfer, PendingTransfer, Verdict}
 use Rattle.vme_listing.specs.declared.row.Version.{Version}
-use Rattle.vme_listing.proofs.FrontHexadecimals.{length-hexadecimal, lanes-length}
+use Rattle.vme_listing.proofs.Digits.{length-hexadecimal}
+use Rattle.vme_listing.proofs.FrontHexadecimals.{lanes-length}
 
 -- the decimal text of a number below 2^32 has at most 10 bytes
 decimal-short : (n : ℕ) → n < 2 ^ 32 → length (decimal n) ≤ 10

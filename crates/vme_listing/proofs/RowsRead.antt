@@ -42,8 +42,9 @@ use Rattle.vme_listing.specs.Lines.{past_answer, past_cycle, past_data, past_dir
 use Rattle.vme_listing.specs.Lines.{past_hexadecimal, past_modifier, past_number, past_read, past_small, past_tenure}
 use Rattle.vme_listing.specs.Lines.{past_transfer, row_in, small_at, tenure_at, transfer_at, verdict_by}
 use Rattle.vme_listing.proofs.Addresses.{HasDigits, HasDigits-of_address}
+use Rattle.vme_listing.proofs.Digits.{length-hexadecimal}
 use Rattle.vme_listing.proofs.FrontDigits.{bytes_eq-refl}
-use Rattle.vme_listing.proofs.FrontHexadecimals.{length-hexadecimal, lanes-length}
+use Rattle.vme_listing.proofs.FrontHexadecimals.{lanes-length}
 use Rattle.vme_listing.proofs.LaneTexts.{lanes_of-lanes_text}
 use Rattle.vme_listing.proofs.Numerals.{number_of-hexadecimal}
 use Rattle.vme_listing.proofs.Pieces.{after_word-is, are_digits, are_digits-decimal, is_end, number_in-is}

@@ -138,14 +138,7 @@ impl RowBuffer {
         ensures length { length self.new ≡ length self.old + digits }
     {
         let first = 8 - digits;
-        let mut glyphs = [0; 8];
-        let mut start: usize = 8;
-        let mut rest = value;
-        while start > first {
-            start -= 1;
-            glyphs[start] = hexadecimal_digit((rest % 16) as u8);
-            rest /= 16;
-        }
+        let glyphs = hexadecimal_digits(value);
         self.extend(&glyphs[first..]);
     }
 
@@ -434,7 +427,7 @@ impl RowBuffer {
 
 /// How many digits the address of a cycle has, by the address modifier code: 8 in the extended space, 6 in the
 /// standard, 4 in the short, and none where the code is of no space.
-pub(crate) fn address_digits(modifier: u8) -> usize
+pub fn address_digits(modifier: u8) -> usize
     ensures digits { result ≡ address_digits modifier }
     ensures most { result ≤ 8 }
 {
@@ -483,6 +476,21 @@ pub fn data_digits(lanes: Lanes) -> [u8; 8]
         lane_digit(moved.has_digit(1), value / 0x10 % 16, flags / 2 % 2),
         lane_digit(moved.has_digit(0), value % 16, flags % 2),
     ]
+}
+
+/// The eight digits of a number in base 16, the letters in upper case.
+pub fn hexadecimal_digits(number: u32) -> [u8; 8]
+    ensures { result ≡ hexadecimal 8 number }
+{
+    let mut glyphs = [0; 8];
+    let mut start: usize = 8;
+    let mut rest = number;
+    while start > 0 {
+        start -= 1;
+        glyphs[start] = hexadecimal_digit((rest % 16) as u8);
+        rest /= 16;
+    }
+    glyphs
 }
 
 /// A digit in base 16.
