@@ -1,6 +1,6 @@
 //! The text that explains a verdict.
 
-ghost use Rattle.std.specs.Prelude.{IfOk};
+ghost use Rattle.std.specs.Prelude.{◌≤◌, IfOk};
 ghost use Rattle.vme_text.specs.Escaping.{IsVisible};
 
 use crate::broken::{push_driver, push_others};
@@ -15,7 +15,7 @@ use crate::wrapping::{LONGEST, wrapped};
 use std::alloc::{AllocError, Global};
 use vcd_read::Variable;
 use vme_account::{Account, Part};
-use vme_listing::{AnswerLine, Direction, Row, data_digits};
+use vme_listing::{AnswerLine, Direction, Row, address_digits, data_digits, hexadecimal_digits};
 use vme_rules::push_rule;
 use vme_text::{Text, escaped_text};
 use vme_trace::{Break, Class, Lanes, Line, Lines, Verdict};
@@ -211,27 +211,15 @@ fn push_addressed(
     }
     push_hexadecimal(text, u32::from(modifier), 2)?;
     text.push(b", address ")?;
-    let digits = match modifier {
-        0x08..=0x0F => 8,
-        0x29 | 0x2D => 4,
-        _ => 6,
-    };
-    push_hexadecimal(text, address, digits)
+    push_hexadecimal(text, address, address_digits(modifier))
 }
 
-/// Appends the last `digits` hexadecimal digits of a number, at most 8.
-fn push_hexadecimal(text: &mut Text, number: u32, digits: u32) -> Result<(), AllocError> {
-    for place in 0..digits.min(8) {
-        let shift = 4 * (digits.min(8) - 1 - place);
-        let digit = ((number >> shift) & 15) as u8;
-        let byte = if digit < 10 {
-            b'0' + digit
-        } else {
-            b'A' + digit - 10
-        };
-        text.push(&[byte])?;
-    }
-    Ok(())
+/// Appends the last `digits` hexadecimal digits of a number.
+fn push_hexadecimal(text: &mut Text, number: u32, digits: usize) -> Result<(), AllocError>
+    requires { digits ≤ 8 }
+{
+    let glyphs = hexadecimal_digits(number);
+    text.push(&glyphs[8 - digits..])
 }
 
 /// Appends since which instant something lasts.
