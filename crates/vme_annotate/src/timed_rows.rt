@@ -1,49 +1,17 @@
 //! The lines of a listing with the times of its instants.
 
 ghost use Rattle.std.specs.Prelude.{◌≡◌, ◌+◌, ◌≤◌, ◌++◌, [], length};
-ghost use Rattle.vme_listing.specs.RowText.{answer_text, class_text, data_text, direction_text};
+ghost use Rattle.vme_listing.specs.RowText.{data_text};
 ghost use Rattle.vme_listing.specs.declared.row.Row.TheVariants.{AddressedCycle, Tenure, Transfer, Verdict};
 ghost use Rattle.vme_annotate.specs.TimedRows.{timed, timed_break, timed_end_instant, timed_line, timed_row};
 
 use crate::listed::TimedListing;
 use crate::short_text::{MOST, ShortText};
-use vme_listing::{AnswerLine, Direction, ListedVerdict, Row, address_digits, data_digits};
+use vme_listing::{
+    AnswerLine, Direction, ListedVerdict, Row, address_digits, answer_text, class_text,
+    data_digits, direction_text,
+};
 use vme_trace::{Class, Lanes, Line, Rule};
-
-/// The class of a cycle, by its letter.
-fn class_text(class: Class) -> &'static [u8]
-    ensures text { result.now ≡ class_text class }
-    ensures length { length result.now ≡ 1 }
-{
-    match class {
-        Class::S => b"S",
-        Class::K => b"K",
-        Class::I => b"I",
-        Class::F => b"F",
-    }
-}
-
-/// The direction of a transfer.
-fn direction_text(direction: Direction) -> &'static [u8]
-    ensures text { result.now ≡ direction_text direction }
-    ensures length { length result.now ≤ 5 }
-{
-    match direction {
-        Direction::Read => b"read",
-        Direction::Write => b"write",
-    }
-}
-
-/// The line of an answer.
-fn answer_text(line: AnswerLine) -> &'static [u8]
-    ensures text { result.now ≡ answer_text line }
-    ensures length { length result.now ≤ 5 }
-{
-    match line {
-        AnswerLine::Dtack => b"DTACK",
-        AnswerLine::Berr => b"BERR",
-    }
-}
 
 /// An instant and its time take at most 41 bytes, and the word before them at most 20.
 impl ShortText {

@@ -15,7 +15,9 @@ use crate::wrapping::{LONGEST, wrapped};
 use std::alloc::{AllocError, Global};
 use vcd_read::Variable;
 use vme_account::{Account, Part};
-use vme_listing::{AnswerLine, Direction, Row, address_digits, data_digits, hexadecimal_digits};
+use vme_listing::{
+    AnswerLine, Row, address_digits, data_digits, direction_text, hexadecimal_digits,
+};
 use vme_rules::push_rule;
 use vme_text::{Text, escaped_text};
 use vme_trace::{Break, Class, Lanes, Line, Lines, Verdict};
@@ -161,7 +163,7 @@ fn push_open_transfer(
             lanes,
             ..
         } => {
-            push_direction(text, *direction)?;
+            text.push(direction_text(*direction))?;
             push_since(text, alloc, account, *start)?;
             match line {
                 AnswerLine::Dtack => text.push(b", answered by DTACK at instant ")?,
@@ -171,7 +173,7 @@ fn push_open_transfer(
             push_data(text, *lanes)
         }
         Row::PendingTransfer { start, direction } => {
-            push_direction(text, *direction)?;
+            text.push(direction_text(*direction))?;
             push_since(text, alloc, account, *start)?;
             text.push(b", not answered")
         }
@@ -187,14 +189,6 @@ fn push_data(text: &mut Text, lanes: Option<Lanes>) -> Result<(), AllocError> {
             text.push(&data_digits(lanes))
         }
         None => Ok(()),
-    }
-}
-
-/// Appends the direction of a transfer.
-fn push_direction(text: &mut Text, direction: Direction) -> Result<(), AllocError> {
-    match direction {
-        Direction::Read => text.push(b"read"),
-        Direction::Write => text.push(b"write"),
     }
 }
 

@@ -58,5 +58,8 @@ pub use listing_reader::ListingReader;
 pub use read::read_listing;
 pub use row::{AnswerLine, Direction, ListedVerdict, Row, Version};
 pub use row_reader::RowReader;
-pub use text::{LONGEST_LINE, address_digits, data_digits, hexadecimal_digits};
+pub use text::{
+    LONGEST_LINE, address_digits, answer_text, class_text, data_digits, direction_text,
+    hexadecimal_digits,
+};
 pub use write::{Write, write_listing};

@@ -154,44 +154,6 @@ impl RowBuffer {
         }
     }
 
-    /// Appends the class of a cycle.
-    fn push_class(&mut self, class: Class)
-        requires { length self.old < MOST }
-        ensures text { self.new ≡ self.old ++ class_text class }
-        ensures length { length self.new ≡ length self.old + 1 }
-    {
-        self.push(match class {
-            Class::S => b'S',
-            Class::K => b'K',
-            Class::I => b'I',
-            Class::F => b'F',
-        });
-    }
-
-    /// Appends the direction of a transfer.
-    fn push_direction(&mut self, direction: Direction)
-        requires { length self.old + 5 ≤ MOST }
-        ensures text { self.new ≡ self.old ++ direction_text direction }
-        ensures length { length self.new ≤ length self.old + 5 }
-    {
-        match direction {
-            Direction::Read => self.extend(b"read"),
-            Direction::Write => self.extend(b"write"),
-        }
-    }
-
-    /// Appends the line of an answer.
-    fn push_answer(&mut self, line: AnswerLine)
-        requires { length self.old + 5 ≤ MOST }
-        ensures text { self.new ≡ self.old ++ answer_text line }
-        ensures length { length self.new ≤ length self.old + 5 }
-    {
-        match line {
-            AnswerLine::Dtack => self.extend(b"DTACK"),
-            AnswerLine::Berr => self.extend(b"BERR"),
-        }
-    }
-
     /// Appends the data of a write, if there are any.
     fn push_data(&mut self, lanes: Option<Lanes>)
         requires { length self.old + 14 ≤ MOST }
@@ -264,7 +226,7 @@ impl RowBuffer {
         self.extend(b"cycle ");
         self.push_decimal(start);
         self.push(b' ');
-        self.push_class(class);
+        self.extend(class_text(class));
         self.push(b' ');
         self.push_hexadecimal(2, u32::from(modifier));
         self.push(b' ');
@@ -321,9 +283,9 @@ impl RowBuffer {
         self.extend(b" of ");
         self.push_decimal(cycle);
         self.push(b' ');
-        self.push_direction(direction);
+        self.extend(direction_text(direction));
         self.push(b' ');
-        self.push_answer(line);
+        self.extend(answer_text(line));
         self.push(b' ');
         self.push_decimal(answer);
         self.extend(b" close ");
@@ -340,7 +302,7 @@ impl RowBuffer {
         self.extend(b"transfer ");
         self.push_decimal(start);
         self.push(b' ');
-        self.push_direction(direction);
+        self.extend(direction_text(direction));
         self.extend(b" pending");
     }
 
@@ -422,6 +384,41 @@ impl RowBuffer {
     {
         self.push_row(row);
         self.push(b'\n');
+    }
+}
+
+/// The class of a cycle, by its letter.
+pub fn class_text(class: Class) -> &'static [u8]
+    ensures text { result.now ≡ class_text class }
+    ensures length { length result.now ≡ 1 }
+{
+    match class {
+        Class::S => b"S",
+        Class::K => b"K",
+        Class::I => b"I",
+        Class::F => b"F",
+    }
+}
+
+/// The direction of a transfer.
+pub fn direction_text(direction: Direction) -> &'static [u8]
+    ensures text { result.now ≡ direction_text direction }
+    ensures length { length result.now ≤ 5 }
+{
+    match direction {
+        Direction::Read => b"read",
+        Direction::Write => b"write",
+    }
+}
+
+/// The line of an answer.
+pub fn answer_text(line: AnswerLine) -> &'static [u8]
+    ensures text { result.now ≡ answer_text line }
+    ensures length { length result.now ≤ 5 }
+{
+    match line {
+        AnswerLine::Dtack => b"DTACK",
+        AnswerLine::Berr => b"BERR",
     }
 }
 

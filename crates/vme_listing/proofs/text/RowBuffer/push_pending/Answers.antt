@@ -1,0 +1,16 @@
+use Rattle.std.proofs.lemmas.List.{append_assoc}
+use Rattle.vme_listing.specs.RowText.{row_text}
+use Rattle.vme_listing.proofs.text.RowBuffer.push_pending.Goals as goal
+
+pub returns-clause-text : goal.returns-clause-text
+unfolding row_text
+returns-clause-text c =
+    rw (
+      c.extend-3.ensures.text,
+      c.extend-2.ensures.text,
+      c.direction_text.ensures.text,
+      c.push.ensures.text,
+      c.push_decimal.ensures.text,
+      c.extend.ensures.text,
+    )
+    (simp append_assoc)
