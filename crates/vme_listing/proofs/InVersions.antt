@@ -12,7 +12,7 @@ use Rattle.vme_listing.specs.Places.{is_number, is_end_instant, has_data, is_row
 use Rattle.vme_listing.specs.Places.{is_never_idle, is_later_place, place_of, may_follow, ascends, follows}
 use Rattle.vme_listing.specs.Places.{ends_listing}
 use Rattle.vme_listing.specs.Places.{can_include, is_rest, is_well_placed}
-use Rattle.vme_listing.specs.Recorded.{recorded_rows, row_in, rows_in}
+use Rattle.vme_listing.specs.Recorded.{recorded_rows, row_in, rows_in, without_data}
 use Rattle.vme_listing.specs.declared.row.Row.{Row}
 use Rattle.vme_listing.specs.declared.row.Row.TheVariants.{Start, Reset, OpenTenure, Tenure, AddressedCycle, FreeCycle}
 use Rattle.vme_listing.specs.declared.row.Row.TheVariants.{InterruptCycle, Transfer, PendingTransfer, Verdict}
@@ -62,121 +62,45 @@ record IsAlike (v : Version) (other row : Row) : Type 0 where
   idle : is_never_idle other ≡ is_never_idle row
   place : (place_of v other ≡ place_of Three row) ⊎ (place_of v other ≡ None)
 
--- `IsAlike` holds of a row and the row put in a version
+-- the place of a row in a version is that in the newest one, or there is none
+place_of-in_version : (v : Version) (row : Row) → (place_of v row ≡ place_of Three row) ⊎ (place_of v row ≡ None)
+place_of-in_version One (Start instant) = inr refl
+place_of-in_version Two (Start instant) = inr refl
+place_of-in_version Three (Start instant) = inl refl
+place_of-in_version v (Reset instant) = inl refl
+place_of-in_version v (OpenTenure start end) = inl refl
+place_of-in_version v (Tenure start level slot end) = inl refl
+place_of-in_version v (AddressedCycle start class modifier address end) = inl refl
+place_of-in_version v (FreeCycle start modifier end) = inl refl
+place_of-in_version v (InterruptCycle start level end) = inl refl
+place_of-in_version v (Transfer direction line start cycle answer close lanes) = inl refl
+place_of-in_version v (PendingTransfer start direction) = inl refl
+place_of-in_version v (Verdict outcome) = inl refl
+
+-- a row is like itself
+IsAlike-row : (v : Version) (row : Row) → IsAlike v row row
+IsAlike-row v row = record
+    { start = refl; reset = refl; verdict = refl; idle = refl; place = place_of-in_version v row }
+
+-- a row without its data is like the row
+IsAlike-without_data : (v : Version) (row : Row) → IsAlike v (without_data row) row
+IsAlike-without_data v (Start instant) = IsAlike-row v _
+IsAlike-without_data v (Reset instant) = IsAlike-row v _
+IsAlike-without_data v (OpenTenure start end) = IsAlike-row v _
+IsAlike-without_data v (Tenure start level slot end) = IsAlike-row v _
+IsAlike-without_data v (AddressedCycle start class modifier address end) = IsAlike-row v _
+IsAlike-without_data v (FreeCycle start modifier end) = IsAlike-row v _
+IsAlike-without_data v (InterruptCycle start level end) = IsAlike-row v _
+IsAlike-without_data v (Transfer direction line start cycle answer close lanes) = record
+    { start = refl; reset = refl; verdict = refl; idle = refl; place = inl refl }
+IsAlike-without_data v (PendingTransfer start direction) = IsAlike-row v _
+IsAlike-without_data v (Verdict outcome) = IsAlike-row v _
+
+-- a row that is put in a version is like the row
 IsAlike-row_in : (v : Version) (row : Row) → IsAlike v (row_in v row) row
-IsAlike-row_in One (Start instant) = record
-    { start = refl; reset = refl; verdict = refl; idle = refl; place = inr refl }
-IsAlike-row_in One (Reset instant) = record
-    { start = refl; reset = refl; verdict = refl; idle = refl; place = inl refl }
-IsAlike-row_in One (OpenTenure start end) =
-    record { start = refl; reset = refl; verdict = refl; idle = refl; place = inl refl }
-IsAlike-row_in One (Tenure start level slot end) = record {
-  start = refl;
-  reset = refl;
-  verdict = refl;
-  idle = refl;
-  place = inl
-      refl;
-}
-IsAlike-row_in One (AddressedCycle start class modifier address end) = record {
-  start = refl;
-  reset = refl;
-  verdict = refl;
-  idle
-      = refl;
-  place = inl refl;
-}
-IsAlike-row_in One (FreeCycle start modifier end) = record {
-  start = refl;
-  reset = refl;
-  verdict = refl;
-  idle = refl;
-  place = inl
-      refl;
-}
-IsAlike-row_in One (InterruptCycle start level end) = record {
-  start = refl;
-  reset = refl;
-  verdict = refl;
-  idle = refl;
-  place
-      = inl refl;
-}
-IsAlike-row_in One (Transfer direction line start cycle answer close lanes) = record {
-  start = refl;
-  reset = refl;
-  verdict
-      = refl;
-  idle = refl;
-  place = inl refl;
-}
-IsAlike-row_in One (PendingTransfer start direction) = record {
-  start = refl;
-  reset = refl;
-  verdict = refl;
-  idle = refl;
-  place
-      = inl refl;
-}
-IsAlike-row_in One (Verdict outcome) = record
-    { start = refl; reset = refl; verdict = refl; idle = refl; place = inl refl }
-IsAlike-row_in Two (Start instant) = record
-    { start = refl; reset = refl; verdict = refl; idle = refl; place = inr refl }
-IsAlike-row_in Two (Reset instant) = record
-    { start = refl; reset = refl; verdict = refl; idle = refl; place = inl refl }
-IsAlike-row_in Two (OpenTenure start end) =
-    record { start = refl; reset = refl; verdict = refl; idle = refl; place = inl refl }
-IsAlike-row_in Two (Tenure start level slot end) = record {
-  start = refl;
-  reset = refl;
-  verdict = refl;
-  idle = refl;
-  place = inl
-      refl;
-}
-IsAlike-row_in Two (AddressedCycle start class modifier address end) = record {
-  start = refl;
-  reset = refl;
-  verdict = refl;
-  idle
-      = refl;
-  place = inl refl;
-}
-IsAlike-row_in Two (FreeCycle start modifier end) = record {
-  start = refl;
-  reset = refl;
-  verdict = refl;
-  idle = refl;
-  place = inl
-      refl;
-}
-IsAlike-row_in Two (InterruptCycle start level end) = record {
-  start = refl;
-  reset = refl;
-  verdict = refl;
-  idle = refl;
-  place
-      = inl refl;
-}
-IsAlike-row_in Two (Transfer direction line start cycle answer close lanes) = record {
-  start = refl;
-  reset = refl;
-  verdict
-      = refl;
-  idle = refl;
-  place = inl refl;
-}
-IsAlike-row_in Two (PendingTransfer start direction) = record {
-  start = refl;
-  reset = refl;
-  verdict = refl;
-  idle = refl;
-  place
-      = inl refl;
-}
-IsAlike-row_in Two (Verdict outcome) = record
-    { start = refl; reset = refl; verdict = refl; idle = refl; place = inl refl }
-IsAlike-row_in Three row = record { start = refl; reset = refl; verdict = refl; idle = refl; place = inl refl }
+IsAlike-row_in One row = IsAlike-without_data One row
+IsAlike-row_in Two row = IsAlike-row Two row
+IsAlike-row_in Three row = IsAlike-row Three row
 
 -- the version in which rows are put
 module _ (v : Version) where
