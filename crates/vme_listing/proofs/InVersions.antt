@@ -14,8 +14,7 @@ use Rattle.vme_listing.specs.Places.{ends_listing}
 use Rattle.vme_listing.specs.Places.{can_include, is_rest, is_well_placed}
 use Rattle.vme_listing.specs.Recorded.{recorded_rows, row_in, rows_in, without_data}
 use Rattle.vme_listing.specs.declared.row.Row.{Row}
-use Rattle.vme_listing.specs.declared.row.Row.TheVariants.{Start, Reset, OpenTenure, Tenure, AddressedCycle, FreeCycle}
-use Rattle.vme_listing.specs.declared.row.Row.TheVariants.{InterruptCycle, Transfer, PendingTransfer, Verdict}
+use Rattle.vme_listing.specs.declared.row.Row.TheVariants.{Start, Reset, Transfer}
 use Rattle.vme_listing.specs.declared.row.Version.{Version}
 use Rattle.vme_listing.specs.declared.row.Version.TheVariants.{One, Two, Three}
 use Rattle.vme_listing.proofs.Readings.{follows-parts, follows-from_parts}
@@ -29,30 +28,14 @@ IsIncluded v row = (includes_resets v || not (is_reset row)) ≡ true
 is_row-in_version : (v : Version) (row : Row) → IsIncluded v row → is_row Three row ≡ true → is_row v (row_in v row)
     ≡ true
 unfolding is_row
-is_row-in_version One (Start instant) told h = h
 is_row-in_version One (Reset instant) told h = absurd (cc)
-is_row-in_version One (OpenTenure start end) told h = h
-is_row-in_version One (Tenure start level slot end) told h = h
-is_row-in_version One (AddressedCycle start class modifier address end) told h = h
-is_row-in_version One (FreeCycle start modifier end) told h = h
-is_row-in_version One (InterruptCycle start level end) told h = h
 is_row-in_version One (Transfer direction line start cycle answer close lanes) told h =
     and_from _ _ (and_parts (is_number start && is_number cycle && is_number answer && is_end_instant close)
     (has_data Three direction lanes) h).0 refl
-is_row-in_version One (PendingTransfer start direction) told h = h
-is_row-in_version One (Verdict outcome) told h = h
-is_row-in_version Two (Start instant) told h = h
 is_row-in_version Two (Reset instant) told h = absurd (cc)
-is_row-in_version Two (OpenTenure start end) told h = h
-is_row-in_version Two (Tenure start level slot end) told h = h
-is_row-in_version Two (AddressedCycle start class modifier address end) told h = h
-is_row-in_version Two (FreeCycle start modifier end) told h = h
-is_row-in_version Two (InterruptCycle start level end) told h = h
 is_row-in_version Two (Transfer direction line start cycle answer close None) told h = h
 is_row-in_version Two (Transfer direction line start cycle answer close (Some lanes)) told h = h
-is_row-in_version Two (PendingTransfer start direction) told h = h
-is_row-in_version Two (Verdict outcome) told h = h
-is_row-in_version Three row told h = h
+is_row-in_version v row told h = h
 
 -- `other` is a start, a reset, a verdict or never idle just if `row` is, and has the place of `row` or none
 record IsAlike (v : Version) (other row : Row) : Type 0 where
@@ -67,15 +50,7 @@ place_of-in_version : (v : Version) (row : Row) → (place_of v row ≡ place_of
 place_of-in_version One (Start instant) = inr refl
 place_of-in_version Two (Start instant) = inr refl
 place_of-in_version Three (Start instant) = inl refl
-place_of-in_version v (Reset instant) = inl refl
-place_of-in_version v (OpenTenure start end) = inl refl
-place_of-in_version v (Tenure start level slot end) = inl refl
-place_of-in_version v (AddressedCycle start class modifier address end) = inl refl
-place_of-in_version v (FreeCycle start modifier end) = inl refl
-place_of-in_version v (InterruptCycle start level end) = inl refl
-place_of-in_version v (Transfer direction line start cycle answer close lanes) = inl refl
-place_of-in_version v (PendingTransfer start direction) = inl refl
-place_of-in_version v (Verdict outcome) = inl refl
+place_of-in_version v row = inl refl
 
 -- a row is like itself
 IsAlike-row : (v : Version) (row : Row) → IsAlike v row row
@@ -84,17 +59,9 @@ IsAlike-row v row = record
 
 -- a row without its data is like the row
 IsAlike-without_data : (v : Version) (row : Row) → IsAlike v (without_data row) row
-IsAlike-without_data v (Start instant) = IsAlike-row v _
-IsAlike-without_data v (Reset instant) = IsAlike-row v _
-IsAlike-without_data v (OpenTenure start end) = IsAlike-row v _
-IsAlike-without_data v (Tenure start level slot end) = IsAlike-row v _
-IsAlike-without_data v (AddressedCycle start class modifier address end) = IsAlike-row v _
-IsAlike-without_data v (FreeCycle start modifier end) = IsAlike-row v _
-IsAlike-without_data v (InterruptCycle start level end) = IsAlike-row v _
 IsAlike-without_data v (Transfer direction line start cycle answer close lanes) = record
     { start = refl; reset = refl; verdict = refl; idle = refl; place = inl refl }
-IsAlike-without_data v (PendingTransfer start direction) = IsAlike-row v _
-IsAlike-without_data v (Verdict outcome) = IsAlike-row v _
+IsAlike-without_data v row = IsAlike-row v row
 
 -- a row that is put in a version is like the row
 IsAlike-row_in : (v : Version) (row : Row) → IsAlike v (row_in v row) row

@@ -28,8 +28,7 @@ use Rattle.vme_listing.specs.Recorded.{tenure_rows}
 use Rattle.vme_listing.specs.Recorded.{transfer_rows}
 use Rattle.vme_listing.specs.declared.row.Version.TheVariants.{Three}
 use Rattle.vme_listing.specs.declared.row.Row.{Row}
-use Rattle.vme_listing.specs.declared.row.Row.TheVariants.{Start, Reset, OpenTenure, Tenure, AddressedCycle, FreeCycle}
-use Rattle.vme_listing.specs.declared.row.Row.TheVariants.{InterruptCycle, Transfer, PendingTransfer, Verdict}
+use Rattle.vme_listing.specs.declared.row.Row.TheVariants.{Start, Reset, Verdict}
 use Rattle.vme_listing.proofs.FoundBreaks.{option_or-some, option_or-both_none, least_break-judged}
 use Rattle.vme_listing.proofs.FoundBreaks.{least_break-within, breaks-never}
 use Rattle.vme_listing.proofs.FoundBreaks.{breaks-not_before}
@@ -77,18 +76,8 @@ record HasNoVerdict (row : Row) : Type 0 where
 
 -- a row that has a place isn't a verdict
 HasNoVerdict-of_place : (row : Row) (p : ℕ × ℕ) → place_of Three row ≡ Some p → HasNoVerdict row
-HasNoVerdict-of_place (Start instant) p e = record { no_verdict = refl; no_idle = refl }
-HasNoVerdict-of_place (Reset instant) p e = record { no_verdict = refl; no_idle = refl }
-HasNoVerdict-of_place (OpenTenure start end) p e = record { no_verdict = refl; no_idle = refl }
-HasNoVerdict-of_place (Tenure start level slot end) p e = record { no_verdict = refl; no_idle = refl }
-HasNoVerdict-of_place (AddressedCycle start class modifier address end) p e =
-    record { no_verdict = refl; no_idle = refl }
-HasNoVerdict-of_place (FreeCycle start modifier end) p e = record { no_verdict = refl; no_idle = refl }
-HasNoVerdict-of_place (InterruptCycle start level end) p e = record { no_verdict = refl; no_idle = refl }
-HasNoVerdict-of_place (Transfer direction line start cycle answer close lanes) p e =
-    record { no_verdict = refl; no_idle = refl }
-HasNoVerdict-of_place (PendingTransfer start direction) p e = record { no_verdict = refl; no_idle = refl }
 HasNoVerdict-of_place (Verdict outcome) p e = absurd (cc)
+HasNoVerdict-of_place row p e = record { no_verdict = refl; no_idle = refl }
 
 -- what may follow a row that isn't a verdict, by whether that row is a reset
 may_follow-by_tests : (ended reset idle starts ends : Bool) → ended ≡ false → idle ≡ false → cond reset (starts || ends)

@@ -98,61 +98,27 @@ is_row version (Verdict outcome) = is_allowed_outcome outcome
 -- the row is a start
 abbrev pub is_start : Row → Bool
 is_start (Start instant) = true
-is_start (Reset instant) = false
-is_start (OpenTenure start end) = false
-is_start (Tenure start level slot end) = false
-is_start (AddressedCycle start class modifier address end) = false
-is_start (FreeCycle start modifier end) = false
-is_start (InterruptCycle start level end) = false
-is_start (Transfer direction line start cycle answer close lanes) = false
-is_start (PendingTransfer start direction) = false
-is_start (Verdict outcome) = false
+is_start row = false
 
 -- the row is a reset
 abbrev pub is_reset : Row → Bool
-is_reset (Start instant) = false
 is_reset (Reset instant) = true
-is_reset (OpenTenure start end) = false
-is_reset (Tenure start level slot end) = false
-is_reset (AddressedCycle start class modifier address end) = false
-is_reset (FreeCycle start modifier end) = false
-is_reset (InterruptCycle start level end) = false
-is_reset (Transfer direction line start cycle answer close lanes) = false
-is_reset (PendingTransfer start direction) = false
-is_reset (Verdict outcome) = false
+is_reset row = false
 
 -- the row is the verdict
 abbrev pub is_verdict : Row → Bool
-is_verdict (Start instant) = false
-is_verdict (Reset instant) = false
-is_verdict (OpenTenure start end) = false
-is_verdict (Tenure start level slot end) = false
-is_verdict (AddressedCycle start class modifier address end) = false
-is_verdict (FreeCycle start modifier end) = false
-is_verdict (InterruptCycle start level end) = false
-is_verdict (Transfer direction line start cycle answer close lanes) = false
-is_verdict (PendingTransfer start direction) = false
 is_verdict (Verdict outcome) = true
+is_verdict row = false
 
 -- the verdict is that the bus is never idle
 abbrev pub never_idles : ListedVerdict → Bool
-never_idles Conforming = false
 never_idles NeverIdle = true
-never_idles (Broken rule instant line) = false
-never_idles (Unreadable rule instant line) = false
+never_idles outcome = false
 
 -- the row is that verdict
 abbrev pub is_never_idle : Row → Bool
-is_never_idle (Start instant) = false
-is_never_idle (Reset instant) = false
-is_never_idle (OpenTenure start end) = false
-is_never_idle (Tenure start level slot end) = false
-is_never_idle (AddressedCycle start class modifier address end) = false
-is_never_idle (FreeCycle start modifier end) = false
-is_never_idle (InterruptCycle start level end) = false
-is_never_idle (Transfer direction line start cycle answer close lanes) = false
-is_never_idle (PendingTransfer start direction) = false
 is_never_idle (Verdict outcome) = never_idles outcome
+is_never_idle row = false
 
 -- the place of a row: its first instant, and the number of its kind in the order of the kinds. The verdict has no
 -- place, and a start has one only where the version has resets

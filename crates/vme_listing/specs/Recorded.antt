@@ -155,17 +155,9 @@ listing_of t = in_newest_version (recorded_rows t)
 
 -- the row without its data
 abbrev pub without_data : Row → Row
-without_data (Start instant) = Start instant
-without_data (Reset instant) = Reset instant
-without_data (OpenTenure start end) = OpenTenure start end
-without_data (Tenure start level slot end) = Tenure start level slot end
-without_data (AddressedCycle start class modifier address end) = AddressedCycle start class modifier address end
-without_data (FreeCycle start modifier end) = FreeCycle start modifier end
-without_data (InterruptCycle start level end) = InterruptCycle start level end
 without_data (Transfer direction line start cycle answer close lanes) =
     Transfer direction line start cycle answer close None
-without_data (PendingTransfer start direction) = PendingTransfer start direction
-without_data (Verdict outcome) = Verdict outcome
+without_data row = row
 
 -- a row of a listing of the newest version, in a listing of this version
 abbrev pub row_in : Version → Row → Row

@@ -6,8 +6,6 @@ use Rattle.vme_listing.specs.Listed.{Listed}
 use Rattle.vme_listing.specs.declared.row.ListedVerdict.{ListedVerdict}
 use Rattle.vme_listing.specs.declared.row.ListedVerdict.TheVariants.{Conforming, NeverIdle, Broken, Unreadable}
 use Rattle.vme_listing.specs.declared.row.Row.{Row}
-use Rattle.vme_listing.specs.declared.row.Row.TheVariants.{Start, Reset, OpenTenure, Tenure, AddressedCycle}
-use Rattle.vme_listing.specs.declared.row.Row.TheVariants.{FreeCycle, InterruptCycle, Transfer, PendingTransfer}
 use Rattle.vme_listing.specs.declared.row.Row.TheVariants.{Verdict}
 
 -- by its verdict: 0 conforming, 1 broken, 2 unreadable or never idle
@@ -19,16 +17,8 @@ verdict_row_status (Unreadable rule instant line) = 2
 
 -- by its last row; if this isn't a verdict, the status is that of a bus that is never idle
 abbrev pub row_status : Row → ℕ
-row_status (Start instant) = 2
-row_status (Reset instant) = 2
-row_status (OpenTenure start end) = 2
-row_status (Tenure start level slot end) = 2
-row_status (AddressedCycle start class modifier address end) = 2
-row_status (FreeCycle start modifier end) = 2
-row_status (InterruptCycle start level end) = 2
-row_status (Transfer direction line start cycle answer close lanes) = 2
-row_status (PendingTransfer start direction) = 2
 row_status (Verdict outcome) = verdict_row_status outcome
+row_status row = 2
 
 -- by the last row, or 2 if there is none
 abbrev pub status_of_last : Option Row → ℕ
