@@ -1,4 +1,5 @@
 pub mod Addresses
+pub mod Conjunctions
 pub mod Glyphs
 pub mod Digits
 pub mod FrontDigits

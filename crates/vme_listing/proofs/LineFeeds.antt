@@ -1,7 +1,7 @@
 -- The text of a row has no line feed, so a row's line ends at the first line feed from its start on.
 use Rattle.std.proofs.Common.{◌≡◌, ℕ, ◌+◌, ◌^◌, ◌<◌, Bool, true, false, not, List, [], ◌∷◌, ◌++◌, take, drop, get_or}
 use Rattle.std.proofs.Common.{length, refl, sym, ap, ◌∙◌, subst, arith, inl, inr, ◌⊎◌, length-append}
-use Rattle.std.specs.Prelude.{Option, None, Some, ◌&&◌, ◌==◌, decimal, nat_lt, nat_le}
+use Rattle.std.specs.Prelude.{Option, None, Some, ◌==◌, decimal, nat_lt, nat_le}
 use Rattle.std.specs.List.{list_all}
 use Rattle.std.specs.Fmt.{digits}
 use Rattle.std.proofs.lemmas.Bool.{agree_below, agree_below_at, and_from, and_parts, cases_order, eq-eqb, leb-true}
@@ -19,6 +19,7 @@ use Rattle.vme_trace.specs.declared.class.Class.TheVariants as class
 use Rattle.vme_trace.specs.declared.rule.Rule.{Rule}
 use Rattle.vme_trace.specs.declared.data.Lanes.{Lanes}
 use Rattle.vme_trace.proofs.EveryRule.{every-rule}
+use Rattle.vme_listing.proofs.Conjunctions.{and_parts-five, and_parts-four, and_parts-three}
 use Rattle.vme_listing.proofs.Glyphs.{are_glyphs, are_glyphs-decimal, are_glyphs-hexadecimal}
 use Rattle.vme_listing.proofs.LaneTexts.{lanes_text-no_line_feed}
 use Rattle.vme_listing.specs.Listed.{includes_resets}
@@ -117,31 +118,6 @@ has_no_line_feed-break rule instant line p q =
     let n = has_no_line_feed-number instant p in
     let l = has_no_line_feed-line line q in
     simp (list_all-append, r, n, l)
-
--- if a && b && c holds, each does
-and_parts-three : (a b c : Bool) → (a && b && c) ≡ true → (a ≡ true) × (b ≡ true) × (c ≡ true)
-and_parts-three true true true h = (refl, refl, refl)
-and_parts-three true true false h = absurd (cc)
-and_parts-three true false c h = absurd (cc)
-and_parts-three false b c h = absurd (cc)
-
--- if a && b && c && d holds, each does
-and_parts-four : (a b c d : Bool) → (a && b && c && d) ≡ true → (a ≡ true) × (b ≡ true) × (c ≡ true) × (d ≡ true)
-and_parts-four true true true true h = (refl, refl, refl, refl)
-and_parts-four true true true false h = absurd (cc)
-and_parts-four true true false d h = absurd (cc)
-and_parts-four true false c d h = absurd (cc)
-and_parts-four false b c d h = absurd (cc)
-
--- if a && b && c && d && e holds, each does
-and_parts-five : (a b c d e : Bool) → (a && b && c && d && e) ≡ true → (a ≡ true) × (b ≡ true) × (c ≡ true) × (d ≡ true)
-    × (e ≡ true)
-and_parts-five true true true true true h = (refl, refl, refl, refl, refl)
-and_parts-five true true true true false h = absurd (cc)
-and_parts-five true true true false e h = absurd (cc)
-and_parts-five true true false d e h = absurd (cc)
-and_parts-five true false c d e h = absurd (cc)
-and_parts-five false b c d e h = absurd (cc)
 
 -- the text of an allowed verdict has no line feed
 has_no_line_feed-outcome : (outcome : ListedVerdict) → is_allowed_outcome outcome ≡ true

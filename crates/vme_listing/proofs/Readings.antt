@@ -1,8 +1,8 @@
 -- How a listing is read, row by row: what is known of the text when some rows were read, and after one more row or a
 -- fault.
-use Rattle.std.proofs.Common.{◌≡◌, ◌≢◌, ℕ, ◌+◌, Bool, true, false, List, [], ◌∷◌, ◌++◌, length, refl}
+use Rattle.std.proofs.Common.{◌≡◌, ◌≢◌, ℕ, ◌+◌, true, false, List, [], ◌∷◌, ◌++◌, length, refl}
 use Rattle.std.proofs.Common.{sym, ap, ◌∙◌, subst, arith, length-append}
-use Rattle.std.specs.Prelude.{Option, None, Some, not, ◌&&◌, flat_map}
+use Rattle.std.specs.Prelude.{Option, None, Some, not, flat_map}
 use Rattle.std.proofs.lemmas.Bool.{and_from, and_parts, false≢true}
 use Rattle.std.proofs.lemmas.Grind.{flat_map-append}
 use Rattle.std.proofs.lemmas.List.{append_assoc, append-nil}
@@ -19,17 +19,7 @@ use Rattle.vme_listing.specs.declared.fault.ListFault.TheVariants.{BadHeader, Ba
 use Rattle.vme_listing.specs.declared.row.Row.{Row}
 use Rattle.vme_listing.specs.declared.row.Version.{Version}
 use Rattle.vme_listing.specs.Listed.{Listed}
-
--- if a && b && c holds, each does
-and_parts-three : (a b c : Bool) → (a && b && c) ≡ true → (a ≡ true) × (b ≡ true) × (c ≡ true)
-and_parts-three true true true h = (refl, refl, refl)
-and_parts-three true true false h = absurd (cc)
-and_parts-three true false c h = absurd (cc)
-and_parts-three false b c h = absurd (cc)
-
--- if each holds, a && b && c does
-and-from_three : (a b c : Bool) → a ≡ true → b ≡ true → c ≡ true → (a && b && c) ≡ true
-and-from_three a b c p q r = rw (p, q, r) refl
+use Rattle.vme_listing.proofs.Conjunctions.{and-from_three, and_parts-three}
 
 -- a row that may follow is one of the version, and may follow by its form and by its place
 pub follows-parts : (version : Version) (before : Option Row) (row : Row) → follows version before row ≡ true

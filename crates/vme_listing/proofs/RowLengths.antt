@@ -1,5 +1,5 @@
 -- How long the text of a row is at most.
-use Rattle.std.proofs.Common.{◌≡◌, ℕ, ◌+◌, ◌/◌, ◌^◌, ◌<◌, ◌≤◌, Bool, true, false, ◌&&◌, length}
+use Rattle.std.proofs.Common.{◌≡◌, ℕ, ◌+◌, ◌/◌, ◌^◌, ◌<◌, ◌≤◌, Bool, true, false, length}
 use Rattle.std.proofs.Common.{refl}
 use Rattle.std.proofs.Common.{arith, length-append}
 use Rattle.std.specs.Prelude.{Option, None, Some, ◌==◌, codes, decimal, nat_lt, nat_le, if◌then◌else◌}
@@ -30,6 +30,7 @@ use Rattle.vme_listing.specs.declared.row.Row.{Row}
 use Rattle.vme_listing.specs.declared.row.Row.TheVariants.{Start, Reset, OpenTenure, Tenure, AddressedCycle, FreeCycle}
 use Rattle.vme_listing.specs.declared.row.Row.TheVariants.{InterruptCycle, Transfer, PendingTransfer, Verdict}
 use Rattle.vme_listing.specs.declared.row.Version.{Version}
+use Rattle.vme_listing.proofs.Conjunctions.{and_parts-five, and_parts-four, and_parts-three}
 use Rattle.vme_listing.proofs.Digits.{length-hexadecimal}
 use Rattle.vme_listing.proofs.FrontHexadecimals.{lanes-length}
 
@@ -108,12 +109,12 @@ unfolding row_text
 outcome-short Conforming h = omega arith
 outcome-short NeverIdle h = omega arith
 outcome-short (Broken rule instant line) h =
-    let parts = and_parts _ (nat_lt line line_count) h in
-    let short = break-short rule instant line (and_parts _ (is_number instant) parts.0).1 parts.1 in
+    let p = and_parts-three _ (is_number instant) (nat_lt line line_count) h in
+    let short = break-short rule instant line p.1 p.2 in
     omega (arith, short, length-append (codes "verdict broken ") (break_text rule instant line))
 outcome-short (Unreadable rule instant line) h =
-    let parts = and_parts _ (nat_lt line line_count) h in
-    let short = break-short rule instant line (and_parts _ (is_number instant) parts.0).1 parts.1 in
+    let p = and_parts-three _ (is_number instant) (nat_lt line line_count) h in
+    let short = break-short rule instant line p.1 p.2 in
     omega (arith, short, length-append (codes "verdict unreadable ") (break_text rule instant line))
 
 -- the text of a row that its form allows has at most 95 bytes
@@ -127,46 +128,36 @@ row-short version (OpenTenure start end) h =
     let p = and_parts (is_number start) (is_end_instant end) h in
     simp length-append (omega (arith, number-short start p.0, end_instant-short end p.1))
 row-short version (Tenure start level slot end) h =
-    let e = and_parts (is_number start && nat_lt level 4 && nat_le 1 slot && nat_le slot 21) (is_end_instant end) h in
-    let most = and_parts (is_number start && nat_lt level 4 && nat_le 1 slot) (nat_le slot 21) e.0 in
-    let least = and_parts (is_number start && nat_lt level 4) (nat_le 1 slot) most.0 in
-    let p = and_parts (is_number start) (nat_lt level 4) least.0 in
+    let p = and_parts-five (is_number start) (nat_lt level 4) (nat_le 1 slot) (nat_le slot 21) (is_end_instant end) h in
     let l = decimal-short level (omega (arith, ltb-true level 4 p.1)) in
-    let n = decimal-short slot (omega (arith, leb-true slot 21 most.1)) in
-    simp length-append (omega (arith, number-short start p.0, l, n, end_instant-short end e.1))
+    let n = decimal-short slot (omega (arith, leb-true slot 21 p.3)) in
+    simp length-append (omega (arith, number-short start p.0, l, n, end_instant-short end p.4))
 row-short version (AddressedCycle start class modifier address end) h =
-    let e = and_parts (is_number start && has_class modifier class && is_address modifier address)
+    let p = and_parts-four (is_number start) (has_class modifier class) (is_address modifier address)
     (is_end_instant end) h in
-    let a = and_parts (is_number start && has_class modifier class) (is_address modifier address) e.0 in
-    let p = and_parts (is_number start) (has_class modifier class) a.0 in
     let s = number-short start p.0 in
     let k = class-short class in
     let m = length-hexadecimal 2 modifier in
     let n = length-hexadecimal (address_digits modifier) address in
-    simp length-append (omega (arith, s, k, m, n, address_digits-at_most_8 modifier, end_instant-short end e.1))
+    simp length-append (omega (arith, s, k, m, n, address_digits-at_most_8 modifier, end_instant-short end p.3))
 row-short version (FreeCycle start modifier end) h =
-    let e = and_parts _ (is_end_instant end) h in
-    let free = and_parts (is_number start && nat_lt modifier 64) _ e.0 in
-    let p = and_parts (is_number start) (nat_lt modifier 64) free.0 in
+    let p = and_parts-four (is_number start) (nat_lt modifier 64) (highest_address modifier == 0)
+    (is_end_instant end) h in
     let m = length-hexadecimal 2 modifier in
-    simp length-append (omega (arith, number-short start p.0, m, end_instant-short end e.1))
+    simp length-append (omega (arith, number-short start p.0, m, end_instant-short end p.3))
 row-short version (InterruptCycle start level end) h =
-    let e = and_parts (is_number start && nat_lt level 8) (is_end_instant end) h in
-    let p = and_parts (is_number start) (nat_lt level 8) e.0 in
+    let p = and_parts-three (is_number start) (nat_lt level 8) (is_end_instant end) h in
     let l = decimal-short level (omega (arith, ltb-true level 8 p.1)) in
-    simp length-append (omega (arith, number-short start p.0, l, end_instant-short end e.1))
+    simp length-append (omega (arith, number-short start p.0, l, end_instant-short end p.2))
 row-short version (Transfer direction line start cycle answer close lanes) h =
-    let d = and_parts (is_number start && is_number cycle && is_number answer && is_end_instant close)
+    let p = and_parts-five (is_number start) (is_number cycle) (is_number answer) (is_end_instant close)
     (has_data version direction lanes) h in
-    let e = and_parts (is_number start && is_number cycle && is_number answer) (is_end_instant close) d.0 in
-    let a = and_parts (is_number start && is_number cycle) (is_number answer) e.0 in
-    let p = and_parts (is_number start) (is_number cycle) a.0 in
     let s = number-short start p.0 in
     let i = number-short cycle p.1 in
     let w = direction-short direction in
     let l = answer-short line in
-    let n = number-short answer a.1 in
-    simp length-append (omega (arith, s, i, w, l, n, end_instant-short close e.1, data-short lanes))
+    let n = number-short answer p.2 in
+    simp length-append (omega (arith, s, i, w, l, n, end_instant-short close p.3, data-short lanes))
 row-short version (PendingTransfer start direction) h =
     simp length-append (omega (arith, number-short start h, direction-short direction))
 row-short version (Verdict outcome) h = outcome-short outcome h

@@ -9,6 +9,7 @@ use Rattle.std.proofs.lemmas.Bool.{and_parts, eqb-true, leb-true, ltb-true, lt-l
 use Rattle.std.proofs.lemmas.Bool.Decides.{nat_tests}
 use Rattle.std.proofs.lemmas.Fmt.{decimal_nonempty}
 use Rattle.std.proofs.lemmas.List.{append-nil, drop_at, take_at}
+use Rattle.vme_trace.specs.Cycle.{highest_address}
 use Rattle.vme_trace.specs.LineNumbers.{line_count}
 use Rattle.vme_trace.specs.Names.{line_name, rule_named}
 use Rattle.vme_trace.specs.Rules.{rule_name}
@@ -42,6 +43,7 @@ use Rattle.vme_listing.specs.Lines.{past_answer, past_cycle, past_data, past_dir
 use Rattle.vme_listing.specs.Lines.{past_hexadecimal, past_modifier, past_number, past_read, past_small, past_tenure}
 use Rattle.vme_listing.specs.Lines.{past_transfer, row_in, small_at, tenure_at, transfer_at, verdict_by}
 use Rattle.vme_listing.proofs.Addresses.{HasDigits, HasDigits-of_address}
+use Rattle.vme_listing.proofs.Conjunctions.{and_parts-five, and_parts-four, and_parts-three}
 use Rattle.vme_listing.proofs.Digits.{length-hexadecimal}
 use Rattle.vme_listing.proofs.FrontDigits.{bytes_eq-refl}
 use Rattle.vme_listing.proofs.FrontHexadecimals.{lanes-length}
@@ -433,18 +435,18 @@ unfolding row_in outcome_in row_text
 IsRead-verdict Conforming h = refl
 IsRead-verdict NeverIdle h = refl
 IsRead-verdict (Broken r instant line) h =
-    let parts = and_parts _ (nat_lt line line_count) h in
-    let below = is_number-below instant (and_parts _ (is_number instant) parts.0).1 in
+    let p = and_parts-three _ (is_number instant) (nat_lt line line_count) h in
+    let below = is_number-below instant p.1 in
     let l = rule_name r ++ (codes " " ++ (decimal instant ++ (codes " " ++ line_name line))) in
     ap row_in (row_text-broken r instant line) ∙ row_in-verdict (codes "broken " ++ l)
-    ∙ ap verdict_by (outcome_in-broken l ∙ break_in-text Broken r instant line below (ltb-true line line_count parts.1))
+    ∙ ap verdict_by (outcome_in-broken l ∙ break_in-text Broken r instant line below (ltb-true line line_count p.2))
 IsRead-verdict (Unreadable r instant line) h =
-    let parts = and_parts _ (nat_lt line line_count) h in
-    let below = is_number-below instant (and_parts _ (is_number instant) parts.0).1 in
+    let p = and_parts-three _ (is_number instant) (nat_lt line line_count) h in
+    let below = is_number-below instant p.1 in
     let l = rule_name r ++ (codes " " ++ (decimal instant ++ (codes " " ++ line_name line))) in
     ap row_in (row_text-unreadable r instant line) ∙ row_in-verdict (codes "unreadable " ++ l)
     ∙ ap verdict_by (outcome_in-unreadable l ∙ break_in-text Unreadable r instant line below
-    (ltb-true line line_count parts.1))
+    (ltb-true line line_count p.2))
 
 -- a row that its form allows is read from its own text
 pub row_in-row_text : (version : Version) (row : Row) → is_row version row ≡ true → row_in (row_text row) ≡ Some row
@@ -456,33 +458,23 @@ row_in-row_text version (OpenTenure start end) h =
     let p = and_parts (is_number start) (is_end_instant end) h in
     IsRead-open_tenure start end p.0 p.1
 row_in-row_text version (Tenure start level slot end) h =
-    let e = and_parts (is_number start && nat_lt level 4 && nat_le 1 slot && nat_le slot 21) (is_end_instant end) h in
-    let most = and_parts (is_number start && nat_lt level 4 && nat_le 1 slot) (nat_le slot 21) e.0 in
-    let least = and_parts (is_number start && nat_lt level 4) (nat_le 1 slot) most.0 in
-    let p = and_parts (is_number start) (nat_lt level 4) least.0 in
-    IsRead-tenure start level slot end p.0 (ltb-true level 4 p.1) (leb-true slot 21 most.1) e.1
+    let p = and_parts-five (is_number start) (nat_lt level 4) (nat_le 1 slot) (nat_le slot 21) (is_end_instant end) h in
+    IsRead-tenure start level slot end p.0 (ltb-true level 4 p.1) (leb-true slot 21 p.3) p.4
 row_in-row_text version (AddressedCycle start c modifier address end) h =
-    let e = and_parts (is_number start && has_class modifier c && is_address modifier address)
+    let p = and_parts-four (is_number start) (has_class modifier c) (is_address modifier address)
     (is_end_instant end) h in
-    let a = and_parts (is_number start && has_class modifier c) (is_address modifier address) e.0 in
-    let p = and_parts (is_number start) (has_class modifier c) a.0 in
-    IsRead-addressed start c modifier address end p.0 p.1 (HasDigits-of_address modifier address a.1)
-    e.1
+    IsRead-addressed start c modifier address end p.0 p.1 (HasDigits-of_address modifier address p.2)
+    p.3
 row_in-row_text version (FreeCycle start modifier end) h =
-    let e = and_parts _ (is_end_instant end) h in
-    let free = and_parts (is_number start && nat_lt modifier 64) _ e.0 in
-    let p = and_parts (is_number start) (nat_lt modifier 64) free.0 in
-    IsRead-free start modifier end p.0 (ltb-true modifier 64 p.1) e.1
+    let p = and_parts-four (is_number start) (nat_lt modifier 64) (highest_address modifier == 0)
+    (is_end_instant end) h in
+    IsRead-free start modifier end p.0 (ltb-true modifier 64 p.1) p.3
 row_in-row_text version (InterruptCycle start level end) h =
-    let e = and_parts (is_number start && nat_lt level 8) (is_end_instant end) h in
-    let p = and_parts (is_number start) (nat_lt level 8) e.0 in
-    IsRead-interrupt start level end p.0 (ltb-true level 8 p.1) e.1
+    let p = and_parts-three (is_number start) (nat_lt level 8) (is_end_instant end) h in
+    IsRead-interrupt start level end p.0 (ltb-true level 8 p.1) p.2
 row_in-row_text version (Transfer direction line start cycle answer close lanes) h =
-    let d = and_parts (is_number start && is_number cycle && is_number answer && is_end_instant close)
+    let p = and_parts-five (is_number start) (is_number cycle) (is_number answer) (is_end_instant close)
     (has_data version direction lanes) h in
-    let e = and_parts (is_number start && is_number cycle && is_number answer) (is_end_instant close) d.0 in
-    let a = and_parts (is_number start && is_number cycle) (is_number answer) e.0 in
-    let p = and_parts (is_number start) (is_number cycle) a.0 in
-    IsRead-transfer version direction line start cycle answer close lanes p.0 p.1 a.1 e.1 d.1
+    IsRead-transfer version direction line start cycle answer close lanes p.0 p.1 p.2 p.3 p.4
 row_in-row_text version (PendingTransfer start direction) h = IsRead-pending start direction h
 row_in-row_text version (Verdict outcome) h = IsRead-verdict outcome h
