@@ -100,23 +100,23 @@ digit-of_parts base weight n low digit high e below rest positive =
     gone : (n rest : ℕ) → n ≡ 0 → n + rest ≡ rest
     gone n rest none = omega arith
 
--- d0 to d7 are the eight lower digits of n in base 16, d0 the lowest
-record AreLowDigits (n d0 d1 d2 d3 d4 d5 d6 d7 : ℕ) : Type 0 where
-  at0 : n / 16 ^ 0 % 16 ≡ d0
-  at1 : n / 16 ^ 1 % 16 ≡ d1
-  at2 : n / 16 ^ 2 % 16 ≡ d2
-  at3 : n / 16 ^ 3 % 16 ≡ d3
-  at4 : n / 16 ^ 4 % 16 ≡ d4
-  at5 : n / 16 ^ 5 % 16 ≡ d5
-  at6 : n / 16 ^ 6 % 16 ≡ d6
-  at7 : n / 16 ^ 7 % 16 ≡ d7
+-- d0 to d7 are the eight lower digits of n in a base, d0 the lowest
+record AreDigits (base n d0 d1 d2 d3 d4 d5 d6 d7 : ℕ) : Type 0 where
+  at0 : n / base ^ 0 % base ≡ d0
+  at1 : n / base ^ 1 % base ≡ d1
+  at2 : n / base ^ 2 % base ≡ d2
+  at3 : n / base ^ 3 % base ≡ d3
+  at4 : n / base ^ 4 % base ≡ d4
+  at5 : n / base ^ 5 % base ≡ d5
+  at6 : n / base ^ 6 % base ≡ d6
+  at7 : n / base ^ 7 % base ≡ d7
 
 -- a sum of eight digits below 16 at their weights has these as its digits
-AreLowDigits-of_sum : (n d0 d1 d2 d3 d4 d5 d6 d7 : ℕ) → n
+AreDigits-of_digits : (n d0 d1 d2 d3 d4 d5 d6 d7 : ℕ) → n
     ≡ d0 + 16 * d1 + 256 * d2 + 4096 * d3 + 65536 * d4 + 1048576 * d5 +
     16777216 * d6 + 268435456 * d7 → d0 < 16 → d1 < 16 → d2 < 16 → d3 < 16 → d4 < 16 → d5 < 16 → d6 < 16 → d7 < 16
-    → AreLowDigits n d0 d1 d2 d3 d4 d5 d6 d7
-AreLowDigits-of_sum n d0 d1 d2 d3 d4 d5 d6 d7 e b0 b1 b2 b3 b4 b5 b6 b7 =
+    → AreDigits 16 n d0 d1 d2 d3 d4 d5 d6 d7
+AreDigits-of_digits n d0 d1 d2 d3 d4 d5 d6 d7 e b0 b1 b2 b3 b4 b5 b6 b7 =
     record {
       at0 = digit-of_parts 16 1 n (0) d0 (d1 + 16 * (d2 + 16 * (d3 + 16 * (d4 + 16 * (d5 + 16 * (d6 + 16 * (d7)))))))
           (omega arith) (omega arith) (omega arith) (omega arith);
@@ -139,22 +139,11 @@ AreLowDigits-of_sum n d0 d1 d2 d3 d4 d5 d6 d7 e b0 b1 b2 b3 b4 b5 b6 b7 =
           d7 (0) (omega arith) (omega arith) (omega arith) (omega arith);
     }
 
--- d0 to d7 are the eight lower bits of n, d0 the lowest
-record AreBits (n d0 d1 d2 d3 d4 d5 d6 d7 : ℕ) : Type 0 where
-  at0 : n / 2 ^ 0 % 2 ≡ d0
-  at1 : n / 2 ^ 1 % 2 ≡ d1
-  at2 : n / 2 ^ 2 % 2 ≡ d2
-  at3 : n / 2 ^ 3 % 2 ≡ d3
-  at4 : n / 2 ^ 4 % 2 ≡ d4
-  at5 : n / 2 ^ 5 % 2 ≡ d5
-  at6 : n / 2 ^ 6 % 2 ≡ d6
-  at7 : n / 2 ^ 7 % 2 ≡ d7
-
 -- a sum of eight bits at their weights has these as its bits
-AreBits-of_sum : (n d0 d1 d2 d3 d4 d5 d6 d7 : ℕ) → n
+AreDigits-of_bits : (n d0 d1 d2 d3 d4 d5 d6 d7 : ℕ) → n
     ≡ d0 + 2 * d1 + 4 * d2 + 8 * d3 + 16 * d4 + 32 * d5 + 64 * d6 + 128 * d7
-    → d0 < 2 → d1 < 2 → d2 < 2 → d3 < 2 → d4 < 2 → d5 < 2 → d6 < 2 → d7 < 2 → AreBits n d0 d1 d2 d3 d4 d5 d6 d7
-AreBits-of_sum n d0 d1 d2 d3 d4 d5 d6 d7 e b0 b1 b2 b3 b4 b5 b6 b7 =
+    → d0 < 2 → d1 < 2 → d2 < 2 → d3 < 2 → d4 < 2 → d5 < 2 → d6 < 2 → d7 < 2 → AreDigits 2 n d0 d1 d2 d3 d4 d5 d6 d7
+AreDigits-of_bits n d0 d1 d2 d3 d4 d5 d6 d7 e b0 b1 b2 b3 b4 b5 b6 b7 =
     record {
       at0 = digit-of_parts 2 1 n (0) d0 (d1 + 2 * (d2 + 2 * (d3 + 2 * (d4 + 2 * (d5 + 2 * (d6 + 2 * (d7)))))))
           (omega arith) (omega arith) (omega arith) (omega arith);
@@ -199,10 +188,10 @@ is_allowed_data-lanes_at v =
     1048576 * digit_at v 5 + 16777216 * digit_at v 6 + 268435456 * digit_at v 7 in
     let unknown = flag_at v 0 + 2 * flag_at v 1 + 4 * flag_at v 2 + 8 * flag_at v 3 + 16 * flag_at v 4 + 32 * flag_at v
     5 + 64 * flag_at v 6 + 128 * flag_at v 7 in
-    let digits = AreLowDigits-of_sum value (digit_at v 0) (digit_at v 1) (digit_at v 2) (digit_at v 3) (digit_at v 4)
+    let digits = AreDigits-of_digits value (digit_at v 0) (digit_at v 1) (digit_at v 2) (digit_at v 3) (digit_at v 4)
     (digit_at v 5) (digit_at v 6) (digit_at v 7) refl f0.below f1.below f2.below f3.below f4.below f5.below f6.below
     f7.below in
-    let bits = AreBits-of_sum unknown (flag_at v 0) (flag_at v 1) (flag_at v 2) (flag_at v 3) (flag_at v 4)
+    let bits = AreDigits-of_bits unknown (flag_at v 0) (flag_at v 1) (flag_at v 2) (flag_at v 3) (flag_at v 4)
     (flag_at v 5)
     (flag_at v 6) (flag_at v 7) refl f0.bit f1.bit f2.bit f3.bit f4.bit f5.bit f6.bit f7.bit in
     and_from _ _
