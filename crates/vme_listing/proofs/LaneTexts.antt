@@ -1,10 +1,11 @@
 -- The data of a write is read from its own text.
-use Rattle.std.proofs.Common.{◌≡◌, ◌==◌, ℕ, ◌+◌, ◌*◌, ◌/◌, ◌%◌, ◌^◌, ◌<◌, Bool, true, not, ◌&&◌, List, [], ◌∷◌, cond}
-use Rattle.std.proofs.Common.{refl, ap, ◌∙◌, arith}
+use Rattle.std.proofs.Common.{◌≡◌, ◌==◌, ℕ, zero, suc, ◌+◌, ◌*◌, ◌/◌, ◌%◌, ◌^◌, ◌<◌, Bool, true, not, ◌&&◌, List, []}
+use Rattle.std.proofs.Common.{◌∷◌, cond, refl, ap, ◌∙◌, arith}
 use Rattle.std.specs.Prelude.{nat_lt}
 use Rattle.std.proofs.Math.Nat.{mod-eq_of_lt}
 use Rattle.std.specs.List.{list_all}
 use Rattle.std.proofs.lemmas.Bool.{and_from, and_parts, ltb-true, ne_eqb}
+use Rattle.std.proofs.lemmas.Nat.{mod_below}
 use Rattle.vme_trace.specs.Lanes.{has_digit}
 use Rattle.vme_trace.specs.declared.data.Lanes.{Lanes}
 use Rattle.vme_trace.specs.declared.data.MovedBytes.{MovedBytes}
@@ -59,13 +60,42 @@ IsAllowedData-of_test a h =
       d7 = p7.1;
     }
 
--- to go on from the digits before the last digit of n with that digit is to go on from n
-number_after-step : (n front byte : ℕ) (word : List ℕ) → n < 2 ^ 32 → front ≡ n / 16 → digit_of byte ≡ n % 16
-    → number_after 16 front (byte ∷ word) ≡ number_after 16 n word
-number_after-step n front byte word below e d =
-    ap (λ x. number_after 16 x word)
-    (ap (λ f. (f * 16 % 2 ^ 32 + digit_of byte) % 2 ^ 32) e ∙ ap (λ x. (n / 16 * 16 % 2 ^ 32 + x) % 2 ^ 32) d
-    ∙ mod_32_bits-last_digit 16 (n / 16) (n % 16) n (omega arith) below)
+-- the text of the lower digits of data, as many as the second argument says, the highest first
+abbrev lower_digits : Lanes → ℕ → List ℕ
+lower_digits a zero = []
+lower_digits a (suc count) = digit_text_in a count ∷ lower_digits a count
+
+-- a digit that the form of data allows
+module _ (a : Lanes) (place : ℕ) (allowed : is_allowed_digit_in a place ≡ true) where
+  -- a digit is below 16
+  below_16 : digit_in a place < 16
+  below_16 = mod_below (a.value / 16 ^ place) 16 (omega arith)
+
+  -- a bit is below 2
+  below_2 : flag_in a place < 2
+  below_2 = mod_below (a.unknown / 2 ^ place) 2 (omega arith)
+
+  -- to go on from the digits of n before its last one, which is this one, with the lower digits is to go on from n
+  number_after-digit : (front n : ℕ) → n < 2 ^ 32 → front ≡ n / 16 → digit_in a place ≡ n % 16
+      → number_after 16 front (lower_digits a (suc place)) ≡ number_after 16 n (lower_digits a place)
+  number_after-digit front n below e d =
+      ap (λ x. number_after 16 x (lower_digits a place))
+      (ap (λ f. (f * 16 % 2 ^ 32 + digit_of (digit_text_in a place)) % 2 ^ 32) e
+      ∙ ap (λ x. (n / 16 * 16 % 2 ^ 32 + x) % 2 ^ 32)
+      (digit_of-text (is_moved_in a place) (digit_in a place) (flag_in a place) below_16 below_2 allowed ∙ d)
+      ∙ mod_32_bits-last_digit 16 (n / 16) (n % 16) n (omega arith) below)
+
+  -- to go on from the bits of n before its last one, which is this one, with the lower digits is to go on from n
+  flags_after-digit : (front n : ℕ) → n < 256 → front ≡ n / 2 → flag_in a place ≡ n % 2
+      → flags_after front (lower_digits a (suc place)) ≡ flags_after n (lower_digits a place)
+  flags_after-digit front n below e f =
+      let small : n / 2 * 2 < 256 = omega arith in
+      ap (λ x. flags_after x (lower_digits a place))
+      (ap (λ x. x * 2 % 256 + flag_of (digit_text_in a place)) e
+      ∙ ap (λ x. n / 2 * 2 % 256 + x)
+      (flag_of-text (is_moved_in a place) (digit_in a place) (flag_in a place) below_16 below_2 allowed ∙ f)
+      ∙ ap (λ x. x + n % 2) (mod-eq_of_lt small)
+      ∙ omega arith)
 
 -- the number of the text of data is the value of the data
 number_of-lanes_text : (a : Lanes) → is_allowed_data a ≡ true → number_of 16 (lanes_text a) ≡ a.value
@@ -74,39 +104,14 @@ number_of-lanes_text a h =
     let are = IsAllowedData-of_test a h in
     let below : a.value < 4294967296 = are.value in
     let v = a.value in
-    let w1 : List ℕ = digit_text_in a 0 ∷ [] in
-    let w2 : List ℕ = digit_text_in a 1 ∷ w1 in
-    let w3 : List ℕ = digit_text_in a 2 ∷ w2 in
-    let w4 : List ℕ = digit_text_in a 3 ∷ w3 in
-    let w5 : List ℕ = digit_text_in a 4 ∷ w4 in
-    let w6 : List ℕ = digit_text_in a 5 ∷ w5 in
-    let w7 : List ℕ = digit_text_in a 6 ∷ w6 in
-    number_after-step (v / 268435456) 0 (digit_text_in a 7) w7 (omega arith) (omega arith)
-    (digit_of-text (is_moved_in a 7) (digit_in a 7) (flag_in a 7) (omega arith) (omega arith) are.d7)
-    ∙ number_after-step (v / 16777216) (v / 268435456) (digit_text_in a 6) w6 (omega arith) (omega arith)
-    (digit_of-text (is_moved_in a 6) (digit_in a 6) (flag_in a 6) (omega arith) (omega arith) are.d6)
-    ∙ number_after-step (v / 1048576) (v / 16777216) (digit_text_in a 5) w5 (omega arith) (omega arith)
-    (digit_of-text (is_moved_in a 5) (digit_in a 5) (flag_in a 5) (omega arith) (omega arith) are.d5)
-    ∙ number_after-step (v / 65536) (v / 1048576) (digit_text_in a 4) w4 (omega arith) (omega arith)
-    (digit_of-text (is_moved_in a 4) (digit_in a 4) (flag_in a 4) (omega arith) (omega arith) are.d4)
-    ∙ number_after-step (v / 4096) (v / 65536) (digit_text_in a 3) w3 (omega arith) (omega arith)
-    (digit_of-text (is_moved_in a 3) (digit_in a 3) (flag_in a 3) (omega arith) (omega arith) are.d3)
-    ∙ number_after-step (v / 256) (v / 4096) (digit_text_in a 2) w2 (omega arith) (omega arith)
-    (digit_of-text (is_moved_in a 2) (digit_in a 2) (flag_in a 2) (omega arith) (omega arith) are.d2)
-    ∙ number_after-step (v / 16) (v / 256) (digit_text_in a 1) w1 (omega arith) (omega arith)
-    (digit_of-text (is_moved_in a 1) (digit_in a 1) (flag_in a 1) (omega arith) (omega arith) are.d1)
-    ∙ number_after-step v (v / 16) (digit_text_in a 0) [] (omega arith) (omega arith)
-    (digit_of-text (is_moved_in a 0) (digit_in a 0) (flag_in a 0) (omega arith) (omega arith) are.d0 ∙ omega arith)
-
--- to go on from the bits before the last bit of n with that bit is to go on from n
-flags_after-step : (n front byte : ℕ) (word : List ℕ) → n < 256 → front ≡ n / 2 → flag_of byte ≡ n % 2
-    → flags_after front
-    (byte ∷ word) ≡ flags_after n word
-flags_after-step n front byte word below e f =
-    let small : n / 2 * 2 < 256 = omega arith in
-    ap (λ x. flags_after x word)
-    (ap (λ x. x * 2 % 256 + flag_of byte) e ∙ ap (λ x. n / 2 * 2 % 256 + x) f ∙ ap (λ x. x + n % 2) (mod-eq_of_lt small)
-    ∙ omega arith)
+    number_after-digit a 7 are.d7 0 (v / 268435456) (omega arith) (omega arith) refl
+    ∙ number_after-digit a 6 are.d6 (v / 268435456) (v / 16777216) (omega arith) (omega arith) refl
+    ∙ number_after-digit a 5 are.d5 (v / 16777216) (v / 1048576) (omega arith) (omega arith) refl
+    ∙ number_after-digit a 4 are.d4 (v / 1048576) (v / 65536) (omega arith) (omega arith) refl
+    ∙ number_after-digit a 3 are.d3 (v / 65536) (v / 4096) (omega arith) (omega arith) refl
+    ∙ number_after-digit a 2 are.d2 (v / 4096) (v / 256) (omega arith) (omega arith) refl
+    ∙ number_after-digit a 1 are.d1 (v / 256) (v / 16) (omega arith) (omega arith) refl
+    ∙ number_after-digit a 0 are.d0 (v / 16) v (omega arith) (omega arith) (omega arith)
 
 -- the bits of the text of data are its unknown digits
 flags_of-lanes_text : (a : Lanes) → is_allowed_data a ≡ true → flags_of (lanes_text a) ≡ a.unknown
@@ -115,29 +120,14 @@ flags_of-lanes_text a h =
     let are = IsAllowedData-of_test a h in
     let below : a.unknown < 256 = are.unknown in
     let u = a.unknown in
-    let w1 : List ℕ = digit_text_in a 0 ∷ [] in
-    let w2 : List ℕ = digit_text_in a 1 ∷ w1 in
-    let w3 : List ℕ = digit_text_in a 2 ∷ w2 in
-    let w4 : List ℕ = digit_text_in a 3 ∷ w3 in
-    let w5 : List ℕ = digit_text_in a 4 ∷ w4 in
-    let w6 : List ℕ = digit_text_in a 5 ∷ w5 in
-    let w7 : List ℕ = digit_text_in a 6 ∷ w6 in
-    flags_after-step (u / 128) 0 (digit_text_in a 7) w7 (omega arith) (omega arith)
-    (flag_of-text (is_moved_in a 7) (digit_in a 7) (flag_in a 7) (omega arith) (omega arith) are.d7)
-    ∙ flags_after-step (u / 64) (u / 128) (digit_text_in a 6) w6 (omega arith) (omega arith)
-    (flag_of-text (is_moved_in a 6) (digit_in a 6) (flag_in a 6) (omega arith) (omega arith) are.d6)
-    ∙ flags_after-step (u / 32) (u / 64) (digit_text_in a 5) w5 (omega arith) (omega arith)
-    (flag_of-text (is_moved_in a 5) (digit_in a 5) (flag_in a 5) (omega arith) (omega arith) are.d5)
-    ∙ flags_after-step (u / 16) (u / 32) (digit_text_in a 4) w4 (omega arith) (omega arith)
-    (flag_of-text (is_moved_in a 4) (digit_in a 4) (flag_in a 4) (omega arith) (omega arith) are.d4)
-    ∙ flags_after-step (u / 8) (u / 16) (digit_text_in a 3) w3 (omega arith) (omega arith)
-    (flag_of-text (is_moved_in a 3) (digit_in a 3) (flag_in a 3) (omega arith) (omega arith) are.d3)
-    ∙ flags_after-step (u / 4) (u / 8) (digit_text_in a 2) w2 (omega arith) (omega arith)
-    (flag_of-text (is_moved_in a 2) (digit_in a 2) (flag_in a 2) (omega arith) (omega arith) are.d2)
-    ∙ flags_after-step (u / 2) (u / 4) (digit_text_in a 1) w1 (omega arith) (omega arith)
-    (flag_of-text (is_moved_in a 1) (digit_in a 1) (flag_in a 1) (omega arith) (omega arith) are.d1)
-    ∙ flags_after-step u (u / 2) (digit_text_in a 0) [] (omega arith) (omega arith)
-    (flag_of-text (is_moved_in a 0) (digit_in a 0) (flag_in a 0) (omega arith) (omega arith) are.d0 ∙ omega arith)
+    flags_after-digit a 7 are.d7 0 (u / 128) (omega arith) (omega arith) refl
+    ∙ flags_after-digit a 6 are.d6 (u / 128) (u / 64) (omega arith) (omega arith) refl
+    ∙ flags_after-digit a 5 are.d5 (u / 64) (u / 32) (omega arith) (omega arith) refl
+    ∙ flags_after-digit a 4 are.d4 (u / 32) (u / 16) (omega arith) (omega arith) refl
+    ∙ flags_after-digit a 3 are.d3 (u / 16) (u / 8) (omega arith) (omega arith) refl
+    ∙ flags_after-digit a 2 are.d2 (u / 8) (u / 4) (omega arith) (omega arith) refl
+    ∙ flags_after-digit a 1 are.d1 (u / 4) (u / 2) (omega arith) (omega arith) refl
+    ∙ flags_after-digit a 0 are.d0 (u / 2) u (omega arith) (omega arith) (omega arith)
 
 -- the bytes that the text of data shows as moved are those that are
 moved_of-lanes_text : (a : Lanes) → moved_of (lanes_text a) ≡ a.moved
