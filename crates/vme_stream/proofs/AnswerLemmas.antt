@@ -159,27 +159,6 @@ AnswerGives-then {X} {Y} r first next is = ap (λ (w : Result X Refusal). w >>= 
 abbrev bound_in : List ℕ → Result BoundLines Refusal
 bound_in text = or_bad_binding (binding_of text)
 
--- a binding that can't be had has some reading, for which it is refused as the fault says
-pub binding_read-fault : {A : Type 0} (old new : Reading) (result : Result A InFault) (fault : InFault) → result
-    ≡ Err fault
-    → (result ≡ Err read.Read → IsReading old new None)
-    → (result ≡ Err read.TooLong → (bytes : List ℕ) × (longest_input < length bytes) × IsReading old new (Some bytes))
-    → (result ≡ Err read.Memory → IsInTime old new)
-    → (bytes : Option (List ℕ)) × IsReading old new bytes × AnswerGives (λ (b : BoundLines). b)
-    (Err (input_refusal Binding fault)) (binding_read bytes)
-unfolding binding_read
-binding_read-fault old new result read.Read is cannot long memory = (None, cannot is, refl)
-binding_read-fault old new result read.TooLong is cannot long memory =
-    let found = long is in (
-      Some found.0,
-      found.2,
-      ap (λ (w : Result (List ℕ) Refusal). w >>= bound_in)
-          (bytes_within_limit-long Binding found.0 found.1),
-    )
-binding_read-fault old new result read.Memory is cannot long memory =
-    let left = in_time old new (memory is) in
-    (left.0, left.1, tt)
-
 -- the binding in an input that isn't too long is that of its text
 pub binding_read-whole : (text : List ℕ) → length text ≤ longest_input → binding_read (Some text)
     ≡ or_bad_binding (binding_of text)
@@ -193,32 +172,46 @@ binding_read-whole text short =
 abbrev dumped_in : List ℕ → Result Contents Refusal
 dumped_in text = or_bad_dump (dump_of text)
 
--- a dump that can't be had has some reading, for which it is refused as the fault says
-pub dump_read-fault : {A : Type 0} (old new : Reading) (result : Result A InFault) (fault : InFault) → result
-    ≡ Err fault
-    → (result ≡ Err read.Read → IsReading old new None)
-    → (result ≡ Err read.TooLong → (bytes : List ℕ) × (longest_input < length bytes) × IsReading old new (Some bytes))
-    → (result ≡ Err read.Memory → IsInTime old new)
-    → (bytes : Option (List ℕ)) × IsReading old new bytes × AnswerGives (λ (d : Contents). d)
-    (Err (input_refusal Dump fault)) (dump_read bytes)
-unfolding dump_read
-dump_read-fault old new result read.Read is cannot long memory = (None, cannot is, refl)
-dump_read-fault old new result read.TooLong is cannot long memory =
-    let found = long is in (
-      Some found.0,
-      found.2,
-      ap (λ (w : Result (List ℕ) Refusal). w >>= dumped_in)
-          (bytes_within_limit-long Dump found.0 found.1),
-    )
-dump_read-fault old new result read.Memory is cannot long memory =
-    let left = in_time old new (memory is) in
-    (left.0, left.1, tt)
-
 -- the dump in an input that isn't too long is that of its text
 pub dump_read-whole : (text : List ℕ) → length text ≤ longest_input → dump_read (Some text) ≡ or_bad_dump (dump_of text)
 unfolding dump_read
 dump_read-whole text short =
     ap (λ (w : Result (List ℕ) Refusal). w >>= dumped_in) (bytes_within_limit-short Dump text short)
+
+-- ---- an input whose bytes can't be had
+
+-- the result of reading a source is a fault, and this is known of the source by the fault
+module _ {A : Type 0} (old new : Reading) (result : Result A InFault) (fault : InFault) (is : result ≡ Err fault)
+    (cannot : result ≡ Err read.Read → IsReading old new None)
+    (long : result ≡ Err read.TooLong
+    → (bytes : List ℕ) × (longest_input < length bytes) × IsReading old new (Some bytes))
+    (memory : result ≡ Err read.Memory → IsInTime old new) where
+  -- what a text says, that can't be had, has some reading, for which it is refused as the fault says
+  refused_by : {Y : Type 0} (input : Input) (said : List ℕ → Result Y Refusal) (f : InFault) → result ≡ Err f
+      → (bytes : Option (List ℕ)) × IsReading old new bytes × AnswerGives (λ (y : Y). y) (Err (input_refusal input f))
+      (bytes_within_limit input bytes >>= said)
+  refused_by input said read.Read e = (None, cannot e, refl)
+  refused_by input said read.TooLong e =
+      let found = long e in (
+        Some found.0,
+        found.2,
+        ap (λ (w : Result (List ℕ) Refusal). w >>= said) (bytes_within_limit-long input found.0 found.1),
+      )
+  refused_by input said read.Memory e =
+      let left = in_time old new (memory e) in
+      (left.0, left.1, tt)
+
+  -- a binding that can't be had has some reading, for which it is refused as the fault says
+  pub binding_read-fault : (bytes : Option (List ℕ)) × IsReading old new bytes × AnswerGives (λ (b : BoundLines). b)
+      (Err (input_refusal Binding fault)) (binding_read bytes)
+  unfolding binding_read
+  binding_read-fault = refused_by Binding bound_in fault is
+
+  -- a dump that can't be had has some reading, for which it is refused as the fault says
+  pub dump_read-fault : (bytes : Option (List ℕ)) × IsReading old new bytes × AnswerGives (λ (d : Contents). d)
+      (Err (input_refusal Dump fault)) (dump_read bytes)
+  unfolding dump_read
+  dump_read-fault = refused_by Dump dumped_in fault is
 
 -- ---- the recording
 
