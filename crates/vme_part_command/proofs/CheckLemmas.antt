@@ -16,7 +16,8 @@ use Rattle.vme_parts.specs.NodeCounts.{tables_for}
 use Rattle.vme_file_part.specs.Growing.{AreTooManyNodes, FileHasNodesAtMost, FileMayGoOn, IsFileSoFar}
 use Rattle.vme_file_part.specs.declared.file_so_far.FileSoFar.{FileSoFar}
 use Rattle.vme_summary.proofs.Sound.{SoundParts-of_well_formed}
-use Rattle.vme_part_command.specs.FileChecks.{FileComesTo, HasFewNodes, IsPending, MayBeJudged}
+use Rattle.vme_part_command.specs.FileChecks.{FileComesTo, HasFewNodes, HasTakenSteps, IsPending, MayBeJudged}
+use Rattle.vme_part_command.specs.declared.file_check.FileCheck.{FileCheck}
 
 module _ (number : ℕ) (listing : Bool) (start : Option ℕ) (file : FileSoFar) (pending : List Step) where
   -- if t has too many steps, or the count with `steps` is over the limit, t with `steps` has too many
@@ -27,7 +28,7 @@ module _ (number : ℕ) (listing : Bool) (start : Option ℕ) (file : FileSoFar)
   too_many-with_steps t count false steps comes many = omega (arith, comes.0, many refl, length-append t.steps steps)
 
   -- if t doesn't have too many steps, they are counted, at most as many as the limit, and some are pending
-  pub FileComesTo-few : (t : Trace) (count : ℕ) (flag : Bool)
+  FileComesTo-few : (t : Trace) (count : ℕ) (flag : Bool)
       → FileComesTo number listing start file pending count flag t
       → flag ≡ false
       → (count ≡ length t.steps) × (count ≤ capture_limit) × IsPending number listing start file pending t
@@ -142,14 +143,6 @@ pub limited-many_steps : (t : Trace) → capture_limit < length t.steps
     → limited t ≡ Err (record { line = 0; kind = TooManySteps })
 limited-many_steps t many = rw (capture_limit-below (length t.steps) many) refl
 
--- a recording with more steps may be judged if it is well-formed and the count with these steps is at most
--- `capture_limit`
-pub MayBeJudged-counted : (t : Trace) (steps : List Step) (count next : ℕ) → count ≡ length t.steps
-    → next ≡ count + length steps → next ≤ capture_limit → malformed_step (with_steps t steps) ≡ None
-    → MayBeJudged (with_steps t steps)
-MayBeJudged-counted t steps count next same more few formed =
-    record { formed = formed; few = omega (arith, same, more, few, length-append t.steps steps) }
-
 -- after judging all pending steps, `next` is the file with all steps of t
 pub IsFileSoFar-all : (number : ℕ) (listing : Bool) (start : Option ℕ) (file next : FileSoFar)
     (pending : List Step)
@@ -160,9 +153,34 @@ IsFileSoFar-all number listing start file next pending t p so_far =
     subst (IsFileSoFar number listing start next) p.all so_far
 
 -- counting steps doesn't change which are judged
-pub IsPending-same : (number : ℕ) (listing : Bool) (start : Option ℕ) (file next : FileSoFar) (p q : Vec Step)
+IsPending-same : (number : ℕ) (listing : Bool) (start : Option ℕ) (file next : FileSoFar) (p q : Vec Step)
     (t : Trace) → next ≡ file → q ≡ p → IsPending number listing start file p.items t
     → IsPending number listing start next q.items t
 IsPending-same number listing start file next p q t is left h =
     subst (λ (f : FileSoFar). IsPending number listing start f q.items t) (sym is)
     (subst (λ (v : Vec Step). IsPending number listing start file v.items t) (sym left) h)
+
+-- `steps` are counted with those of t, of which the pending ones aren't judged, and aren't too many
+pub record IsCounted (number : ℕ) (listing : Bool) (start : Option ℕ) (check : FileCheck) (t : Trace)
+    (steps : List Step) : Type 0 where
+  pub pending : IsPending number listing start check.file check.pending.items t
+  pub count : check.count ≡ length (t.steps ++ steps)
+  pub may : MayBeJudged (with_steps t steps)
+
+-- `steps` are counted where they were added to the count of a check that was given the steps of t
+pub IsCounted-few : (number : ℕ) (listing : Bool) (start : Option ℕ) (old new : FileCheck) (t : Trace)
+    (steps : List Step) (more : ℕ)
+    → HasTakenSteps number listing start old t → malformed_step (with_steps t steps) ≡ None
+    → (new.count ≡ old.count + more) × (new.is_too_long ≡ false) × (old.is_too_long ≡ false)
+    → (old.count ≤ capture_limit → new.count ≤ capture_limit)
+    → (new.file ≡ old.file) × (new.pending ≡ old.pending) → more ≡ length steps
+    → IsCounted number listing start new t steps
+IsCounted-few number listing start old new t steps more h formed few within left all =
+    let (same, fits, was) = FileComesTo-few number listing start old.file old.pending.items t old.count old.is_too_long
+    h few.2 in
+    let sum : new.count ≡ length (t.steps ++ steps) = omega (arith, few.0, all, same, length-append t.steps steps) in
+    record {
+      pending = IsPending-same number listing start old.file new.file old.pending new.pending t left.0 left.1 was;
+      count = sum;
+      may = record { formed = formed; few = omega (arith, sum, within fits) };
+    }
