@@ -1,14 +1,12 @@
 -- The recording of a text, deskewed and cut into blocks, is listed with its times, or its refusal is given.
-use Rattle.std.proofs.Common.{◌≡◌, ℕ, false, List, length, refl, ap, sym, subst, ◌∙◌}
+use Rattle.std.proofs.Common.{◌≡◌, ℕ, false, List, length, ap, sym, subst, ◌∙◌}
 use Rattle.std.specs.Prelude.{nat_lt, Option, Result, Ok, Err}
 use Rattle.vcd_read.specs.Contents.{Contents}
 use Rattle.vcd_read.specs.Header.{◌>>=◌}
 use Rattle.vcd_read.specs.Meaning.{dump_of}
 use Rattle.vme_bind.specs.Binding.{BoundLines}
-use Rattle.vme_bind.specs.BoundGroups.{bound_groups_in}
-use Rattle.vme_bind.specs.Capture.{capture_of, limited, recording, recording_of}
+use Rattle.vme_bind.specs.Capture.{capture_of, limited}
 use Rattle.vme_bind.specs.TextCapture.{CaptureFailsBy, recording_of_text}
-use Rattle.vme_bind.specs.declared.fault.BindFault.{BindFault}
 use Rattle.vme_bind.specs.declared.fault.CaptureFault.{CaptureFault}
 use Rattle.vme_skew.specs.Settled.{settled, settled_or}
 use Rattle.vme_trace.specs.Trace.{Trace}
@@ -18,9 +16,8 @@ use Rattle.vme_stream.specs.Answers.{or_bad_dump, recording_by}
 use Rattle.vme_stream.specs.Refusals.{capture_refusal}
 use Rattle.vme_stream.specs.declared.refusal.Refusal.{Refusal}
 use Rattle.vme_stream.specs.declared.refusal.Refusal.TheVariants.{Memory}
-use Rattle.vme_stream.proofs.AnswerLemmas.{capture_read-bound, capture_read-refused, AnswerGives-then}
-use Rattle.vme_stream.proofs.AnswerLemmas.{recording_by-fails}
-use Rattle.vme_stream.proofs.AnswerLemmas.{recording_by-text}
+use Rattle.vme_stream.proofs.AnswerLemmas.{capture_by-or_too_long, capture_read-bound, capture_read-refused}
+use Rattle.vme_stream.proofs.AnswerLemmas.{AnswerGives-then, or_too_long, recording_by-fails, recording_by-text}
 use Rattle.vme_commands.specs.Judged.{in_blocks, limited_in_blocks}
 use Rattle.vme_commands.specs.Settled.{settled_read, settled_recording}
 use Rattle.vme_commands.proofs.JudgedLemmas.{limited_in_blocks-short}
@@ -34,31 +31,6 @@ abbrev GivesTrace : Result Trace Refusal → Result Trace Refusal → Type 0
 GivesTrace found read = AnswerGives (λ (t : Trace). t) found read
 
 -- ---- a recording that isn't too long
-
--- the recording, or the refusal where it has too many steps
-abbrev pub or_too_long : Trace → Result Trace Refusal
-or_too_long t = or_bad_binding (limited t)
-
--- whether a recording has too many steps may be asked after the binding is found good
-or_bad_binding-or_too_long : {W : Type 0} (r : Result W BindFault) (made : W → Trace)
-    → or_bad_binding (r >>= λ w. limited (made w))
-    ≡ (or_bad_binding (r >>= λ w. Ok (made w)) >>= or_too_long)
-or_bad_binding-or_too_long (Ok w) made = refl
-or_bad_binding-or_too_long (Err fault) made = refl
-
--- the capture of a dump is its recording, if this hasn't too many steps
-capture_of-or_too_long : (bound : BoundLines) (contents : Contents) → or_bad_binding (capture_of bound contents)
-    ≡ (or_bad_binding (recording_of bound contents) >>= or_too_long)
-unfolding capture_of recording_of
-capture_of-or_too_long bound contents = or_bad_binding-or_too_long
-    (bound_groups_in contents.variables bound.assignments)
-    (λ wires. recording bound.slots wires contents.instants (length contents.instants))
-
--- the capture of what reading a dump gave is its recording, if this hasn't too many steps
-pub capture_by-or_too_long : (bound : BoundLines) (dump : Result Contents Refusal) → capture_by bound dump
-    ≡ (recording_by bound dump >>= or_too_long)
-capture_by-or_too_long bound (Ok contents) = capture_of-or_too_long bound contents
-capture_by-or_too_long bound (Err r) = refl
 
 -- the capture of a text is its recording, if this hasn't too many steps
 pub capture_by-recording_of_text : (bound : BoundLines) (bytes : List ℕ) (t : Trace) → recording_of_text bound bytes

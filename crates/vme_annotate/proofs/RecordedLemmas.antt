@@ -25,6 +25,7 @@ use Rattle.vme_trace.specs.WellFormed.{malformed_step}
 use Rattle.vme_stream.specs.Answers.{capture_by, or_bad_binding, or_bad_dump, recording_by}
 use Rattle.vme_stream.specs.declared.refusal.Refusal.{Refusal}
 use Rattle.vme_commands.specs.Judged.{in_blocks}
+use Rattle.vme_stream.proofs.AnswerLemmas.{capture_by-or_too_long, or_too_long}
 use Rattle.vme_annotation.proofs.SameDumpLemmas.{IsDump, bind-ok, IsDump-dump_of}
 use Rattle.vme_annotate.specs.HasTimes.{HasTimes}
 use Rattle.vme_annotate.specs.TimedListings.{recording_to_list}
@@ -32,7 +33,6 @@ use Rattle.vme_annotate.proofs.HasTimesLemmas.{EachReached, IsReached-time_at, I
 use Rattle.vme_annotate.proofs.HasTimesLemmas.{IsReached-dump_of, EachReached-recording_of}
 use Rattle.vme_annotate.proofs.HasTimesLemmas.{EachReached-settled, time_at-later}
 use Rattle.vme_annotate.proofs.ListedInstants.{all_changes-within}
-use Rattle.vme_annotate.proofs.ListedLemmas.{capture_by-or_too_long, or_too_long}
 
 -- ---- from a result that is `Ok` to what it is made of
 

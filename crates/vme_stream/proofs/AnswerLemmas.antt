@@ -322,7 +322,7 @@ unfolding recording_read
 recording_read-bound binding dump b is = ap (λ (r : Result BoundLines Refusal). r >>= recorded_of dump) is
 
 -- a recording, or the refusal if it is too long
-abbrev or_too_long : Trace → Result Trace Refusal
+abbrev pub or_too_long : Trace → Result Trace Refusal
 or_too_long t = or_bad_binding (limited t)
 
 -- what is made within the limit is what is made, or the refusal that it is too long
@@ -340,7 +340,7 @@ capture_of-or_too_long bound contents = or_too_long-made (bound_groups_in conten
     (λ found_groups. recording bound.slots found_groups contents.instants (length contents.instants))
 
 -- the capture of a dump that may be refused is its recording, or the refusal if it is too long
-capture_by-or_too_long : (bound : BoundLines) (dump : Result Contents Refusal) → capture_by bound dump
+pub capture_by-or_too_long : (bound : BoundLines) (dump : Result Contents Refusal) → capture_by bound dump
     ≡ (recording_by bound dump >>= or_too_long)
 capture_by-or_too_long bound (Ok contents) = capture_of-or_too_long bound contents
 capture_by-or_too_long bound (Err r) = refl
