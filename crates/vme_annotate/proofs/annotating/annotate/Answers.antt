@@ -2,20 +2,15 @@ use Rattle.vme_trace.specs.Streams.{Reading, Writing}
 use Rattle.vme_annotate.proofs.EndsLemmas.{Annotates-exact, Annotates-unwritten}
 use Rattle.vme_annotate.proofs.annotating.annotate.Goals as goal
 
-pub returns-clause-unwritten : goal.returns-clause-unwritten
-returns-clause-unwritten g c =
+pub returns : goal.returns
+returns g c =
     let done = c.read_and_write.new in
     let binding : Reading × Reading = (g.B.Source.reading c.args.binding.now, g.B.Source.reading done.binding) in
     let dump : Reading × Reading = (g.D.Source.reading c.args.dump.now, g.D.Source.reading done.dump) in
     let out : Writing × Writing = (g.O.Sink.writing c.args.out.now, g.O.Sink.writing done.out) in
     let err : Writing × Writing = (g.E.Sink.writing c.args.err.now, g.E.Sink.writing done.err) in
-    Annotates-unwritten c.args.skew binding dump out err c.read_and_write.result c.read_and_write.ensures
-
-pub returns-clause-exact : goal.returns-clause-exact
-returns-clause-exact g c =
-    let done = c.read_and_write.new in
-    let binding : Reading × Reading = (g.B.Source.reading c.args.binding.now, g.B.Source.reading done.binding) in
-    let dump : Reading × Reading = (g.D.Source.reading c.args.dump.now, g.D.Source.reading done.dump) in
-    let out : Writing × Writing = (g.O.Sink.writing c.args.out.now, g.O.Sink.writing done.out) in
-    let err : Writing × Writing = (g.E.Sink.writing c.args.err.now, g.E.Sink.writing done.err) in
-    Annotates-exact c.args.skew binding dump out err c.read_and_write.result c.read_and_write.ensures
+    record {
+      answer = c.read_and_write.ensures;
+      unwritten = Annotates-unwritten c.args.skew binding dump out err c.read_and_write.result c.read_and_write.ensures;
+      exact = Annotates-exact c.args.skew binding dump out err c.read_and_write.result c.read_and_write.ensures;
+    }
