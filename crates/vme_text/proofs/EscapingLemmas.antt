@@ -4,7 +4,8 @@ use Rattle.std.proofs.Common.{◌∙◌, arith, flat_map, if◌then◌else◌, l
 use Rattle.std.proofs.lemmas.Bool.{and_from, or_left, or_right}
 use Rattle.std.proofs.lemmas.List.Folds.{list_all-append}
 use Rattle.std.specs.List.{list_all}
-use Rattle.vme_text.specs.Escaping.{hex_digit, is_visible, hex_escaped_byte, hex_escaped_in_text}
+use Rattle.std.specs.Fmt.{digit_glyph}
+use Rattle.vme_text.specs.Escaping.{is_visible, hex_escaped_byte, hex_escaped_in_text}
 
 -- a byte from 32 to 126 is visible
 is_visible-character : (b : ℕ) → 32 ≤ b → b ≤ 126 → is_visible b ≡ true
@@ -13,7 +14,7 @@ is_visible-character b least most =
     (le-leb b 126 most))
 
 -- a hexadecimal digit is visible
-is_visible-digit : (n : ℕ) → n < 16 → is_visible (hex_digit n) ≡ true
+is_visible-digit : (n : ℕ) → n < 16 → is_visible (digit_glyph true n) ≡ true
 is_visible-digit n low = by_test (nat_lt n 10)
   where
     -- by whether the digit is a decimal one
@@ -39,11 +40,12 @@ hex_escaped_byte-visible b = by_test (nat_le 32 b && nat_le b 126) refl
     -- by whether the byte stays as it is
     by_test : (t : Bool) → (nat_le 32 b && nat_le b 126) ≡ t
         → list_all is_visible
-        (if t then b ∷ [] else 92 ∷ 120 ∷ hex_digit (b / 16 % 16) ∷ hex_digit (b % 16) ∷ []) ≡ true
+        (if t then b ∷ [] else 92 ∷ 120 ∷ digit_glyph true (b / 16 % 16) ∷ digit_glyph true (b % 16) ∷ []) ≡ true
     by_test true e = list_all-visible_cons b [] (or_left (nat_le 32 b && nat_le b 126) (b == 10) e) refl
     by_test false e =
-        let last = list_all-visible_cons (hex_digit (b % 16)) [] (is_visible-digit (b % 16) (omega arith)) refl in
-        list_all-visible_cons (hex_digit (b / 16 % 16)) (hex_digit (b % 16) ∷ [])
+        let last = list_all-visible_cons (digit_glyph true (b % 16)) [] (is_visible-digit (b % 16) (omega arith)) refl
+        in
+        list_all-visible_cons (digit_glyph true (b / 16 % 16)) (digit_glyph true (b % 16) ∷ [])
         (is_visible-digit (b / 16 % 16) (omega arith)) last
 
 -- a byte of a text of several lines is visible once it is escaped

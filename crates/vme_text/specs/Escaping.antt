@@ -1,16 +1,13 @@
 -- Bytes as they are escaped in text for people.
-use Rattle.std.specs.Prelude.{◌≡◌, ℕ, ◌+◌, ◌/◌, ◌%◌, Bool, true, ◌&&◌, ◌||◌, ◌==◌, ◌∷◌, [], List, nat_le, nat_lt}
-use Rattle.std.specs.Prelude.{if◌then◌else◌}
+use Rattle.std.specs.Prelude.{◌≡◌, ℕ, ◌/◌, ◌%◌, Bool, true, ◌&&◌, ◌||◌, ◌==◌, ◌∷◌, [], List, nat_le, if◌then◌else◌}
+use Rattle.std.specs.Fmt.{digit_glyph}
 use Rattle.std.specs.List.{list_all}
-
--- the hexadecimal digit of a number below 16: 0 to 9 from 48 on, A to F from 65 on
-abbrev pub hex_digit : ℕ → ℕ
-hex_digit n = if nat_lt n 10 then 48 + n else 55 + n
 
 -- a space or a visible character as it is; any other byte as a backslash, an x and its last two digits in base 16
 abbrev pub hex_escaped_byte : ℕ → List ℕ
 hex_escaped_byte b =
-    if nat_le 32 b && nat_le b 126 then b ∷ [] else 92 ∷ 120 ∷ hex_digit (b / 16 % 16) ∷ hex_digit (b % 16) ∷ []
+    if nat_le 32 b && nat_le b 126 then b ∷ []
+    else 92 ∷ 120 ∷ digit_glyph true (b / 16 % 16) ∷ digit_glyph true (b % 16) ∷ []
 
 -- a byte in a text of several lines: a line feed as it is, any other byte escaped
 abbrev pub hex_escaped_in_text : ℕ → List ℕ

@@ -1,7 +1,8 @@
 //! Escaping of bytes in text for people: no byte steers a terminal or turns the direction of a line.
 
-ghost use Rattle.std.specs.Prelude.{◌≡◌, ◌<◌, ◌++◌, IfOk, OnErr, OnOk, flat_map};
-ghost use Rattle.vme_text.specs.Escaping.{IsVisible, hex_digit, hex_escaped_byte, hex_escaped_in_text};
+ghost use Rattle.std.specs.Prelude.{◌≡◌, ◌<◌, ◌++◌, true, IfOk, OnErr, OnOk, flat_map};
+ghost use Rattle.std.specs.Fmt.{digit_glyph};
+ghost use Rattle.vme_text.specs.Escaping.{IsVisible, hex_escaped_byte, hex_escaped_in_text};
 
 use crate::text::Text;
 use std::alloc::{AllocError, Global};
@@ -67,14 +68,19 @@ fn push_escaped_byte(all: &mut Vec<u8>, byte: u8) -> Result<(), AllocError>
     if 0x20 <= byte && byte <= 0x7E {
         all.extend_from_slice(&[byte])
     } else {
-        all.extend_from_slice(&[b'\\', b'x', hex_digit(byte / 16 % 16), hex_digit(byte % 16)])
+        all.extend_from_slice(&[
+            b'\\',
+            b'x',
+            hexadecimal_digit(byte / 16 % 16),
+            hexadecimal_digit(byte % 16),
+        ])
     }
 }
 
 /// The hexadecimal digit of a number below 16.
-fn hex_digit(number: u8) -> u8
+fn hexadecimal_digit(number: u8) -> u8
     requires { number < 16 }
-    ensures { result ≡ hex_digit number }
+    ensures { result ≡ digit_glyph true number }
 {
     if number < 10 {
         b'0' + number
