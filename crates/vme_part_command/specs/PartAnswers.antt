@@ -55,12 +55,7 @@ join_refusal_text names refusal.TooManySegments has_marks = refusing_text (codes
 -- the status of the command where parts can't be joined
 abbrev pub join_refusal_status : JoinRefusal → ℕ
 join_refusal_status refusal.Memory = 4
-join_refusal_status (refusal.Backplane place) = 3
-join_refusal_status (refusal.Marks place) = 3
-join_refusal_status (refusal.Differs number) = 3
-join_refusal_status refusal.TooManySteps = 3
-join_refusal_status refusal.TooManyNodes = 3
-join_refusal_status refusal.TooManySegments = 3
+join_refusal_status why = 3
 
 -- the line that says why no part is joined from the inputs
 abbrev pub no_join_text : List (List ℕ) → NoJoin → List ℕ
@@ -83,12 +78,9 @@ no_join_answer names why =
 
 -- the command's answer with the verdict, or why there is none
 abbrev pub told_answer : RecordingAnswer → CommandAnswer
-told_answer (told.Beyond number) = refusing (told_text (told.Beyond number))
-told_answer (told.Missing number) = refusing (told_text (told.Missing number))
-told_answer (told.Torn number) = refusing (told_text (told.Torn number))
-told_answer told.TooManySteps = refusing (told_text told.TooManySteps)
 told_answer (told.Verdict v) =
     record { out = line_of (verdict_text (verdict_of v)); error = []; status = verdict_status (verdict_of v) }
+told_answer why = refusing (told_text why)
 
 -- the command's answer with the listing, or why there is none
 abbrev pub listed_answer : ListingAnswer → CommandAnswer
