@@ -12,8 +12,12 @@ use Rattle.vme_stream.specs.Ends.{Ends}
 use Rattle.vme_stream.specs.Texts.{line_of}
 use Rattle.vme_stream.specs.declared.refusal.Refusal.TheVariants.{Memory}
 use Rattle.vme_part_format.specs.Tables.{PartValue}
+use Rattle.vme_parts.specs.declared.answers.RecordingAnswer.{RecordingAnswer}
+use Rattle.vme_parts.specs.declared.answers.RecordingAnswer.TheVariants.{Verdict}
+use Rattle.vme_parts.specs.declared.answers.WideVerdict.{WideVerdict}
 use Rattle.vme_part_command.specs.PartAnswers.{Complains, ComplainsUnlessMemory, DoesOfParts, EndsUnlessMemory}
-use Rattle.vme_part_command.specs.PartAnswers.{ListsPart, ListsRecording, no_join_answer, refusing}
+use Rattle.vme_part_command.specs.PartAnswers.{ListsPart, ListsRecording, no_join_answer, refusing, told_answer}
+use Rattle.vme_part_command.specs.Lines.{told_text}
 use Rattle.vme_part_command.specs.Inputs.{IsJoinOf, IsNoJoin}
 use Rattle.vme_part_command.specs.Written.{FindsPart, WritesPart, dump_recording, no_part_answer, written_part}
 use Rattle.vme_part_command.specs.declared.inputs.NoJoin.{NoJoin}
@@ -48,6 +52,12 @@ pub Ends-refusing : (text : List ℕ) (out : Writing) (err : Writing × Writing)
     → TriesToWrite err.0 err.1 (line_of text) → status ≡ 3 → Ends (refusing text) (out, out) err status
 Ends-refusing text out err status told is =
     Ends-complaint _ _ out err status (Complains-refusing text err status told is)
+
+-- an answer about the recording that isn't the verdict is a refusal
+pub told_answer-refused : (what : RecordingAnswer) → ((v : WideVerdict) → what ≡ Verdict v → ⊥)
+    → told_answer what ≡ refusing (told_text what)
+told_answer-refused (Verdict v) other = absurd (other v refl)
+told_answer-refused what other = refl
 
 -- ---- results from parts
 

@@ -12,7 +12,7 @@ ghost use Rattle.vme_parts.specs.declared.answers.RecordingAnswer.TheVariants as
 
 use crate::complaints::{no_memory, refuse};
 use crate::inputs::{NamedPart, joined, refuse_joined};
-use crate::lines::{part_line, refusing_line, told_line, verdict_line, verdict_status};
+use crate::lines::{refusing_line, told_line, verdict_line, verdict_status};
 use std::alloc::Global;
 use vme_listing::{Listing, write_listing};
 use vme_part_format::Part;
@@ -42,10 +42,7 @@ fn tell<O: Sink, E: Sink>(told: RecordingAnswer, out: &mut O, err: &mut E) -> u8
 {
     match told {
         RecordingAnswer::Verdict(verdict) => put_verdict(&verdict, out, err),
-        RecordingAnswer::Beyond(number) => refuse(part_line(number, b" beyond the files"), err),
-        RecordingAnswer::Missing(number) => refuse(part_line(number, b" missing"), err),
-        RecordingAnswer::Torn(number) => refuse(part_line(number, b" torn"), err),
-        RecordingAnswer::TooManySteps => refuse(refusing_line(b"too many steps"), err),
+        _ => refuse(told_line(&told), err),
     }
 }
 
