@@ -116,9 +116,7 @@ module _ (last : ℕ) where
         → RowIsIn (cycle_row i v ending c)
     unfolding row_changes
     RowIsIn-cycle_row v ending class.S e = (is, AreIn-ends _ ending e)
-    RowIsIn-cycle_row v ending class.K e = (is, AreIn-ends _ ending e)
-    RowIsIn-cycle_row v ending class.F e = (is, AreIn-ends _ ending e)
-    RowIsIn-cycle_row v ending class.I e = (is, AreIn-ends _ ending e)
+    RowIsIn-cycle_row v ending c e = (is, AreIn-ends _ ending e)
 
     -- the changes of the rows of the cycles that begin at `i` are at instants up to `last`
     RowsAreIn-cycle_rows : RowsAreIn (cycle_rows t stretch end i)

@@ -143,10 +143,7 @@ moved_of-lanes_text a =
     by_bytes : (m : MovedBytes) → cond (has_digit m 7) LongWord
         (cond (has_digit m 2) (cond (has_digit m 0) Word EvenByte) (cond (has_digit m 0) OddByte Nothing)) ≡ m
     by_bytes Nothing = refl
-    by_bytes OddByte = refl
-    by_bytes EvenByte = refl
-    by_bytes Word = refl
-    by_bytes LongWord = refl
+    by_bytes m = refl
 
 -- the data that is read from its own text is the data
 pub lanes_of-lanes_text : (a : Lanes) → is_allowed_data a ≡ true → lanes_of (lanes_text a) ≡ a

@@ -76,9 +76,7 @@ has_no_line_feed-hexadecimal k n = has_no_line_feed-glyphs (hexadecimal k n) (ar
 -- the text of the class of a cycle has no line feed
 has_no_line_feed-class : (class : Class) → has_no_line_feed (class_text class) ≡ true
 has_no_line_feed-class class.S = refl
-has_no_line_feed-class class.K = refl
-has_no_line_feed-class class.I = refl
-has_no_line_feed-class class.F = refl
+has_no_line_feed-class c = refl
 
 -- the text of the direction of a transfer has no line feed
 has_no_line_feed-direction : (direction : Direction) → has_no_line_feed (direction_text direction) ≡ true

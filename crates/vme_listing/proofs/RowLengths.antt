@@ -50,9 +50,7 @@ end_instant-short (Some n) h = number-short n h
 -- the text of the class of a cycle has at most 1 byte
 class-short : (class : Class) → length (class_text class) ≤ 1
 class-short class.S = omega arith
-class-short class.K = omega arith
-class-short class.I = omega arith
-class-short class.F = omega arith
+class-short c = omega arith
 
 -- the text of the direction of a transfer has at most 5 bytes
 direction-short : (direction : Direction) → length (direction_text direction) ≤ 5

@@ -58,32 +58,12 @@ IsVisible-escaped (b ∷ bs) = IsVisible-append (escaped_byte b) (escaped bs) (I
 -- the name of a tag is visible
 IsVisible-tag_name : (name : Tag) → IsVisible (tag_name name)
 IsVisible-tag_name tag.Svg = refl
-IsVisible-tag_name tag.Title = refl
-IsVisible-tag_name tag.Defs = refl
-IsVisible-tag_name tag.Pattern = refl
-IsVisible-tag_name tag.Path = refl
-IsVisible-tag_name tag.Rect = refl
-IsVisible-tag_name tag.Text = refl
+IsVisible-tag_name name = refl
 
 -- the name of an attribute is visible
 IsVisible-attribute_name : (name : Attribute) → IsVisible (attribute_name name)
 IsVisible-attribute_name attribute.Xmlns = refl
-IsVisible-attribute_name attribute.Id = refl
-IsVisible-attribute_name attribute.X = refl
-IsVisible-attribute_name attribute.Y = refl
-IsVisible-attribute_name attribute.Width = refl
-IsVisible-attribute_name attribute.Height = refl
-IsVisible-attribute_name attribute.ViewBox = refl
-IsVisible-attribute_name attribute.PatternUnits = refl
-IsVisible-attribute_name attribute.FontFamily = refl
-IsVisible-attribute_name attribute.FontSize = refl
-IsVisible-attribute_name attribute.FontWeight = refl
-IsVisible-attribute_name attribute.TextAnchor = refl
-IsVisible-attribute_name attribute.D = refl
-IsVisible-attribute_name attribute.Fill = refl
-IsVisible-attribute_name attribute.Stroke = refl
-IsVisible-attribute_name attribute.StrokeWidth = refl
-IsVisible-attribute_name attribute.StrokeDasharray = refl
+IsVisible-attribute_name name = refl
 
 -- the text of an attribute is visible
 IsVisible-attribute_text : (name : Attribute) (value : List ℕ) → IsVisible (attribute_text (name, value))

@@ -4,7 +4,7 @@ use Rattle.std.proofs.Common.{◌≡◌, ◌+◌, ◌≤◌, ◌<◌, ◌↔◌,
 use Rattle.std.proofs.Common.{inr, arith}
 use Rattle.std.specs.Prelude.{◌⊎◌, Option, Some, None, Result, Ok, Err}
 use Rattle.vme_trace.specs.declared.verdict.Verdict.{Verdict}
-use Rattle.vme_trace.specs.declared.verdict.Verdict.TheVariants.{Conforming, Broken, Unreadable, NeverIdle}
+use Rattle.vme_trace.specs.declared.verdict.Verdict.TheVariants.{Conforming}
 use Rattle.vme_stream.specs.declared.refusal.Refusal.{Refusal}
 use Rattle.vme_stream.specs.declared.refusal.Refusal.TheVariants.{Memory}
 use Rattle.vme_stream.specs.Answers.{CommandAnswer, AnswerGives, answer_by, answer_of, judgement_of}
@@ -16,9 +16,7 @@ use Rattle.vme_stream.specs.Texts.{verdict_status, refusal_status}
 -- the status of a verdict is at most 4
 pub verdict_status-small : (v : Verdict) → verdict_status v ≤ 4
 verdict_status-small Conforming = omega arith
-verdict_status-small (Broken b) = omega arith
-verdict_status-small (Unreadable b) = omega arith
-verdict_status-small NeverIdle = omega arith
+verdict_status-small v = omega arith
 
 -- the status of a refusal is at most 4
 pub refusal_status-small : (r : Refusal) → refusal_status r ≤ 4
