@@ -1,32 +1,17 @@
 //! One part joined from several.
 
 ghost use Rattle.std.specs.Prelude.{map};
-ghost use Rattle.vme_stream.specs.Ends.{Ends};
 ghost use Rattle.vme_part_format.specs.Bounds.{FitsPart};
 ghost use Rattle.vme_part_format.specs.Tables.{part_value};
 ghost use Rattle.vme_part_command.specs.PartAnswers.{EndsUnlessMemory, WritesJoin};
-ghost use Rattle.vme_part_command.specs.Written.{written, written_part};
+ghost use Rattle.vme_part_command.specs.Written.{written_part};
 
 use crate::complaints::no_memory;
 use crate::inputs::{NamedPart, joined, refuse_joined};
 use std::alloc::Global;
 use vme_part_format::{Part, write_part};
-use vme_stream::{cannot_write_line, complain, write_all};
+use vme_stream::write_answer;
 use vme_trace::{Sink, Source};
-
-/// Writes `bytes`. The answer is the exit status.
-fn put_bytes<O: Sink, E: Sink>(bytes: &[u8], out: &mut O, err: &mut E) -> u8
-    ensures { Ends (written bytes.now)
-        (O.writing out.old, O.writing out.new) (E.writing err.old, E.writing err.new) result }
-{
-    match write_all(out, bytes) {
-        Ok(()) => 0,
-        Err(_) => {
-            complain(err, cannot_write_line());
-            5
-        }
-    }
-}
 
 /// Writes a part. The answer is the exit status.
 pub(crate) fn put_part<O: Sink, E: Sink>(alloc: Global, part: &Part, out: &mut O, err: &mut E) -> u8
@@ -35,7 +20,7 @@ pub(crate) fn put_part<O: Sink, E: Sink>(alloc: Global, part: &Part, out: &mut O
         (O.writing out.old, O.writing out.new) (E.writing err.old, E.writing err.new) result }
 {
     match write_part(alloc, part) {
-        Ok(bytes) => put_bytes(bytes.as_slice(), out, err),
+        Ok(bytes) => write_answer(bytes.as_slice(), 0, out, err),
         Err(_) => no_memory(err),
     }
 }

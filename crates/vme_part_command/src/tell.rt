@@ -18,7 +18,7 @@ use vme_listing::{Listing, write_listing};
 use vme_part_format::Part;
 use vme_part_listing::{ListingAnswer, tell_listing};
 use vme_parts::{RecordingAnswer, WideVerdict, tell_verdict};
-use vme_stream::{cannot_write_line, complain, listing_status, write_message};
+use vme_stream::{cannot_write_line, complain, listing_status, write_answer};
 use vme_trace::{Sink, Source};
 
 /// Writes a verdict. The answer is the exit status.
@@ -26,13 +26,8 @@ fn put_verdict<O: Sink, E: Sink>(verdict: &WideVerdict, out: &mut O, err: &mut E
     ensures { Ends (told_answer (told.Verdict verdict.now))
         (O.writing out.old, O.writing out.new) (E.writing err.old, E.writing err.new) result }
 {
-    match write_message(out, verdict_line(verdict)) {
-        Ok(()) => verdict_status(verdict),
-        Err(_) => {
-            complain(err, cannot_write_line());
-            5
-        }
-    }
+    let line = verdict_line(verdict);
+    write_answer(line.as_bytes(), verdict_status(verdict), out, err)
 }
 
 /// Writes the verdict, or why there is none. The answer is the exit status.

@@ -1,9 +1,11 @@
 //! Writing to a sink.
 
-ghost use Rattle.std.specs.Prelude.{MatchResult};
+ghost use Rattle.std.specs.Prelude.{[], MatchResult};
+ghost use Rattle.vme_stream.specs.Ends.{Ends};
 ghost use Rattle.vme_stream.specs.Outputs.{Writes, FailsToWrite, TriesToWrite};
 
 use crate::message::Message;
+use crate::text::cannot_write_line;
 use vme_trace::{Failed, Sink};
 
 /// Writes all of `bytes`. After a failure a prefix of them was written.
@@ -34,4 +36,19 @@ pub fn complain<W: Sink>(sink: &mut W, line: Message)
     ensures { TriesToWrite (W.writing sink.old) (W.writing sink.new) line }
 {
     let _ = write_message(sink, line);
+}
+
+/// Writes the answer `bytes` to `out`, and returns its status. If that fails, writes to `err` that it can't be written,
+/// and returns 5.
+pub fn write_answer<O: Sink, E: Sink>(bytes: &[u8], status: u8, out: &mut O, err: &mut E) -> u8
+    ensures { Ends (record { out = bytes.now; error = []; status = status })
+        (O.writing out.old, O.writing out.new) (E.writing err.old, E.writing err.new) result }
+{
+    match write_all(out, bytes) {
+        Ok(()) => status,
+        Err(_) => {
+            complain(err, cannot_write_line());
+            5
+        }
+    }
 }

@@ -4,9 +4,9 @@ ghost use Rattle.std.specs.Prelude.{◌≡◌, ◌≤◌, Ok};
 ghost use Rattle.vme_stream.specs.Answers.{AnswerGives, answer_by, verdict_in_blocks};
 ghost use Rattle.vme_stream.specs.Ends.{Ends};
 
-use crate::output::{complain, write_message};
+use crate::output::write_answer;
 use crate::refusal::Refusal;
-use crate::text::{cannot_write_line, verdict_line, verdict_status};
+use crate::text::{verdict_line, verdict_status};
 use std::alloc::Global;
 use vme_summary::verdict_by_blocks;
 use vme_trace::{Capture, CutFault, Sink, Verdict};
@@ -30,11 +30,6 @@ pub fn tell_verdict<O: Sink, E: Sink>(verdict: &Verdict, out: &mut O, err: &mut 
     ensures { Ends (answer_by (Ok verdict.now))
         (O.writing out.old, O.writing out.new) (E.writing err.old, E.writing err.new) result }
 {
-    match write_message(out, verdict_line(verdict)) {
-        Ok(()) => verdict_status(verdict),
-        Err(_) => {
-            complain(err, cannot_write_line());
-            5
-        }
-    }
+    let line = verdict_line(verdict);
+    write_answer(line.as_bytes(), verdict_status(verdict), out, err)
 }

@@ -1,17 +1,4 @@
-use Rattle.std.proofs.Common.{refl, inl, inr}
-use Rattle.std.proofs.KnownBytes.{Appends-nil}
 use Rattle.vme_part_command.proofs.tell.put_verdict.Goals as goal
 
-pub returns-in-Ok : goal.returns-in-Ok
-returns-in-Ok g c = inl (record {
-  out_is = rw c.verdict_line.ensures at c.in-Ok.ensures;
-  err_is = inl (Appends-nil _, refl);
-  status_is = c.verdict_status.ensures;
-})
-
-pub returns-in-Err : goal.returns-in-Err
-returns-in-Err g c = inr (record {
-  out_is = rw c.verdict_line.ensures at c.in-Err.ensures;
-  err_is = rw c.cannot_write_line.ensures at c.complain.ensures;
-  status_is = refl;
-})
+pub returns : goal.returns
+returns g c = rw (c.as_bytes.ensures, c.verdict_line-line.ensures, c.verdict_status.ensures) at c.write_answer.ensures

@@ -1,6 +1,6 @@
 use Rattle.std.proofs.Common.{refl, inl, inr}
 use Rattle.std.proofs.KnownBytes.{Appends-nil}
-use Rattle.vme_part_command.proofs.join.put_bytes.Goals as goal
+use Rattle.vme_stream.proofs.output.write_answer.Goals as goal
 
 pub returns-in-Ok : goal.returns-in-Ok
 returns-in-Ok g c = inl (record {
