@@ -18,7 +18,7 @@ use std::alloc::Global;
 use vme_bind::Binding;
 use vme_commands::BLOCK;
 use vme_stream::{
-    Input, Refusal, binding_from, cannot_write_line, complain, read_all, refusal_line,
+    Input, Refusal, binding_from, cannot_write_line, complain, read_all, tell_refusal,
 };
 use vme_trace::{Sink, Source};
 
@@ -76,10 +76,7 @@ fn read_and_write<B: Source, D: Source, O: Sink, E: Sink>(
 {
     match annotated_from(alloc, binding, dump, skew) {
         Ok(annotated) => write_or_complain(&annotated, out, err),
-        Err(refusal) => {
-            complain(err, refusal_line(&refusal));
-            refusal.status()
-        }
+        Err(refusal) => tell_refusal(&refusal, err),
     }
 }
 

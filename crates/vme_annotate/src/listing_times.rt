@@ -14,7 +14,7 @@ use crate::output_buffer::OutputBuffer;
 use crate::timed_rows::timed_line;
 use std::alloc::Global;
 use vme_stream::{
-    Input, Refusal, binding_from, cannot_write_line, complain, read_all, refusal_line,
+    Input, Refusal, binding_from, cannot_write_line, complain, read_all, tell_refusal,
 };
 use vme_trace::{Failed, Sink, Source};
 
@@ -63,10 +63,7 @@ fn read_and_write<B: Source, D: Source, O: Sink, E: Sink>(
 {
     match listing_from(alloc, binding, dump, block, skew) {
         Ok(listing) => write_or_complain(&listing, out, err),
-        Err(refusal) => {
-            complain(err, refusal_line(&refusal));
-            refusal.status()
-        }
+        Err(refusal) => tell_refusal(&refusal, err),
     }
 }
 

@@ -10,7 +10,7 @@ ghost use Rattle.vme_part_command.specs.Lines.{input_text};
 
 use std::alloc::{AllocError, Global};
 use vme_audit_lines::dump_head;
-use vme_stream::{Message, Refusal, complain, refusal_line, write_all};
+use vme_stream::{Message, Refusal, complain, tell_refusal, write_all};
 use vme_text::Text;
 use vme_trace::Sink;
 
@@ -18,8 +18,7 @@ use vme_trace::Sink;
 pub(crate) fn no_memory<E: Sink>(err: &mut E) -> u8
     ensures { Complains (refusal_answer Memory) (E.writing err.old, E.writing err.new) result }
 {
-    complain(err, refusal_line(&Refusal::Memory));
-    Refusal::Memory.status()
+    tell_refusal(&Refusal::Memory, err)
 }
 
 /// Writes a line that refuses something. The answer is the exit status, 3.

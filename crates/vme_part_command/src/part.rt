@@ -16,7 +16,7 @@ use std::alloc::Global;
 use vme_bind::Binding;
 use vme_dump_input::{dump_input, read_definitions};
 use vme_part_format::Part;
-use vme_stream::{Refusal, binding_from, complain, refusal_line};
+use vme_stream::{Refusal, binding_from, tell_refusal};
 use vme_trace::{Sink, Source};
 
 /// Which file of a recording a dump is, and what its part has.
@@ -69,10 +69,7 @@ fn refuse_part<E: Sink>(why: NoPart, err: &mut E) -> u8
     ensures { Complains (no_part_answer why) (E.writing err.old, E.writing err.new) result }
 {
     match why {
-        NoPart::Refused(refusal) => {
-            complain(err, refusal_line(&refusal));
-            refusal.status()
-        }
+        NoPart::Refused(refusal) => tell_refusal(&refusal, err),
         NoPart::OutOfRange => refuse(refusing_line(b"out of the range of parts"), err),
     }
 }

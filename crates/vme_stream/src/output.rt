@@ -1,11 +1,13 @@
 //! Writing to a sink.
 
-ghost use Rattle.std.specs.Prelude.{[], MatchResult};
+ghost use Rattle.std.specs.Prelude.{◌≡◌, [], MatchResult};
 ghost use Rattle.vme_stream.specs.Ends.{Ends};
 ghost use Rattle.vme_stream.specs.Outputs.{Writes, FailsToWrite, TriesToWrite};
+ghost use Rattle.vme_stream.specs.Texts.{line_of, refusal_status, refusal_text};
 
 use crate::message::Message;
-use crate::text::cannot_write_line;
+use crate::refusal::Refusal;
+use crate::text::{cannot_write_line, refusal_line};
 use vme_trace::{Failed, Sink};
 
 /// Writes all of `bytes`. After a failure a prefix of them was written.
@@ -51,4 +53,13 @@ pub fn write_answer<O: Sink, E: Sink>(bytes: &[u8], status: u8, out: &mut O, err
             5
         }
     }
+}
+
+/// Writes why a command has no answer, and returns the refusal's status. Where the write fails, nothing else is done.
+pub fn tell_refusal<E: Sink>(refusal: &Refusal, err: &mut E) -> u8
+    ensures told { TriesToWrite (E.writing err.old) (E.writing err.new) (line_of (refusal_text refusal.now)) }
+    ensures status { result ≡ refusal_status refusal.now }
+{
+    complain(err, refusal_line(refusal));
+    refusal.status()
 }

@@ -10,9 +10,10 @@ use Rattle.vme_part_command.proofs.part.refuse_part.Goals as goal
 
 pub returns-in-Refused : goal.returns-in-Refused
 returns-in-Refused g c =
-    let err : Writing × Writing = (g.E.Sink.writing c.args.err.now, g.E.Sink.writing c.complain.new.sink) in
-    subst (λ (w : NoPart). Complains (no_part_answer w) err c.status.result) (sym c.in-Refused.is)
-    (record { err_is = rw c.refusal_line.ensures at c.complain.ensures; status_is = c.status.ensures })
+    let told = c.tell_refusal in
+    let err : Writing × Writing = (g.E.Sink.writing c.args.err.now, g.E.Sink.writing told.new.err) in
+    subst (λ (w : NoPart). Complains (no_part_answer w) err told.result) (sym c.in-Refused.is)
+    (record { err_is = told.ensures.told; status_is = told.ensures.status })
 
 pub returns-in-OutOfRange : goal.returns-in-OutOfRange
 returns-in-OutOfRange g c =
