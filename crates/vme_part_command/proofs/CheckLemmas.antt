@@ -2,16 +2,12 @@
 -- judged.
 use Rattle.std.proofs.Common.{◌≡◌, ℕ, ◌+◌, ◌*◌, ◌≤◌, ◌<◌, Bool, true, false, List, ◌++◌, length, Option, refl, arith}
 use Rattle.std.proofs.Common.{length-append, append_assoc, ap, sym, subst, ◌∙◌, take, drop, take-append-drop}
-use Rattle.std.specs.Prelude.{Ok, Err, nat_lt}
 use Rattle.std.specs.Global.{Vec}
-use Rattle.std.proofs.lemmas.Bool.Decides.{nat_tests}
 use Rattle.vme_trace.specs.Trace.{Trace}
 use Rattle.vme_trace.specs.Followed.{with_steps}
 use Rattle.vme_trace.specs.WellFormed.{capture_limit, malformed_step}
 use Rattle.vme_trace.specs.declared.step.Step.{Step}
 use Rattle.std.specs.Prelude.{None}
-use Rattle.vme_bind.specs.Capture.{limited}
-use Rattle.vme_bind.specs.declared.fault.BindFaultKind.TheVariants.{TooManySteps}
 use Rattle.vme_parts.specs.NodeCounts.{tables_for}
 use Rattle.vme_file_part.specs.Growing.{AreTooManyNodes, FileHasNodesAtMost, FileMayGoOn, IsFileSoFar}
 use Rattle.vme_file_part.specs.declared.file_so_far.FileSoFar.{FileSoFar}
@@ -124,24 +120,7 @@ pub HasFewNodes-batch : (k : ℕ) (file : FileSoFar) (t : Trace) (steps : List S
 HasFewNodes-batch k file t steps few whole most =
     (k + tables_for (length steps), omega (arith, few, whole, length-append t.steps steps), most)
 
--- ---- the limit of a recording
-
--- `capture_limit` isn't less than a number that is at most `capture_limit`
-capture_limit-not_below : (n : ℕ) → n ≤ capture_limit → nat_lt capture_limit n ≡ false
-capture_limit-not_below n few = grind (arith, nat_tests)
-
--- `capture_limit` is less than a number above it
-capture_limit-below : (n : ℕ) → capture_limit < n → nat_lt capture_limit n ≡ true
-capture_limit-below n many = grind (arith, nat_tests)
-
--- a recording of at most `capture_limit` steps isn't refused
-pub limited-few_steps : (t : Trace) → length t.steps ≤ capture_limit → limited t ≡ Ok t
-limited-few_steps t few = rw (capture_limit-not_below (length t.steps) few) refl
-
--- a recording of more than `capture_limit` steps is refused
-pub limited-many_steps : (t : Trace) → capture_limit < length t.steps
-    → limited t ≡ Err (record { line = 0; kind = TooManySteps })
-limited-many_steps t many = rw (capture_limit-below (length t.steps) many) refl
+-- ---- the steps that are counted
 
 -- after judging all pending steps, `next` is the file with all steps of t
 pub IsFileSoFar-all : (number : ℕ) (listing : Bool) (start : Option ℕ) (file next : FileSoFar)

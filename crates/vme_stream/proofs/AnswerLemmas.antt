@@ -2,7 +2,7 @@
 -- refusal does.
 use Rattle.std.proofs.Common.{◌≡◌, ◌≤◌, ◌<◌, ℕ, List, length, refl, ap, sym, subst, ◌∙◌}
 use Rattle.std.specs.Prelude.{Option, Some, None, Result, Ok, Err}
-use Rattle.std.proofs.lemmas.Bool.{le-leb, lt-leb}
+use Rattle.std.proofs.lemmas.Bool.{le-leb, le-ltb, lt-leb, lt-ltb}
 use Rattle.vcd_read.specs.Contents.{Contents}
 use Rattle.vcd_read.specs.Header.{◌>>=◌}
 use Rattle.vcd_read.specs.Meaning.{dump_of}
@@ -21,6 +21,7 @@ use Rattle.vme_bind.specs.declared.fault.BindFault.{BindFault}
 use Rattle.vme_bind.specs.declared.fault.BindFaultKind.{BindFaultKind}
 use Rattle.vme_bind.specs.declared.fault.BindFaultKind.TheVariants as bind
 use Rattle.vme_trace.specs.Trace.{Trace}
+use Rattle.vme_trace.specs.WellFormed.{capture_limit}
 use Rattle.vme_trace.specs.declared.verdict.Verdict.{Verdict}
 use Rattle.vme_stream.specs.declared.input.InFault.{InFault}
 use Rattle.vme_stream.specs.declared.input.InFault.TheVariants as read
@@ -320,6 +321,15 @@ pub recording_read-bound : (binding dump : Option (List ℕ)) (b : BoundLines) �
     → recording_read binding dump ≡ recording_by b (dump_read dump)
 unfolding recording_read
 recording_read-bound binding dump b is = ap (λ (r : Result BoundLines Refusal). r >>= recorded_of dump) is
+
+-- a recording of at most `capture_limit` steps isn't too long
+pub limited-few_steps : (t : Trace) → length t.steps ≤ capture_limit → limited t ≡ Ok t
+limited-few_steps t few = rw (le-ltb capture_limit (length t.steps) few) refl
+
+-- a recording of more than `capture_limit` steps is too long
+pub limited-many_steps : (t : Trace) → capture_limit < length t.steps
+    → limited t ≡ Err (record { line = 0; kind = bind.TooManySteps })
+limited-many_steps t many = rw (lt-ltb capture_limit (length t.steps) many) refl
 
 -- a recording, or the refusal if it is too long
 abbrev pub or_too_long : Trace → Result Trace Refusal

@@ -2,8 +2,8 @@
 use Rattle.std.proofs.Common.{ap, arith}
 use Rattle.vme_stream.specs.Answers.{or_bad_binding}
 use Rattle.vme_trace.specs.Followed.{with_steps}
-use Rattle.vme_part_command.proofs.CheckLemmas.{IsCounted-few, limited-few_steps, limited-many_steps}
-use Rattle.vme_part_command.proofs.CheckLemmas.{too_many-with_steps}
+use Rattle.vme_stream.proofs.AnswerLemmas.{limited-few_steps, limited-many_steps}
+use Rattle.vme_part_command.proofs.CheckLemmas.{IsCounted-few, too_many-with_steps}
 use Rattle.vme_part_command.proofs.file_check.FileCheck.finish.Goals as goal
 
 pub returns-then-not-counts : goal.returns-then-not-counts
