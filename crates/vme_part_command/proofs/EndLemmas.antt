@@ -1,12 +1,9 @@
 -- How the commands for parts end, by their results.
-use Rattle.std.proofs.Common.{◌≡◌, ℕ, List, [], Option, Ok, Err, refl, inl, inr, take, length, subst}
-use Rattle.std.specs.Io.KnownBytes.{Appends}
+use Rattle.std.proofs.Common.{◌≡◌, ℕ, List, [], Option, Ok, Err, refl, inl, inr}
 use Rattle.std.proofs.KnownBytes.{Appends-nil}
 use Rattle.vme_trace.specs.Streams.{Reading, Writing}
-use Rattle.vme_stream.proofs.OutputLemmas.{take-done}
 use Rattle.vme_stream.specs.Inputs.{IsReading}
 use Rattle.vme_stream.specs.Outputs.{TriesToWrite}
-use Rattle.vme_listing.specs.Written.{AppendsFront}
 use Rattle.vme_stream.specs.Answers.{CommandAnswer, binding_read, dump_read}
 use Rattle.vme_stream.specs.Ends.{Ends}
 use Rattle.vme_stream.specs.Texts.{line_of}
@@ -25,14 +22,6 @@ use Rattle.vme_part_command.specs.declared.inputs.NoJoin.TheVariants as none
 use Rattle.vme_part_command.specs.declared.no_part.NoPart.{NoPart}
 use Rattle.vme_part_command.specs.declared.no_part.NoPart.TheVariants as no_part
 use Rattle.vme_part_command.specs.declared.part.PartOptions.{PartOptions}
-
--- if a front of `text` was written, it is the first n bytes for some n
-pub AppendsFront-take : (old new : Option (List ℕ)) (text : List ℕ) → AppendsFront old new text → (n : ℕ)
-    × Appends old new
-    (take n text)
-AppendsFront-take old new text took =
-    let (front, rest, split, appended) = took in
-    (length front, subst (λ (bytes : List ℕ). Appends old new bytes) (take-done text front rest split) appended)
 
 -- a command that complains of a refusal, and writes nothing to standard output, ends with that refusal
 pub Ends-complaint : (error : List ℕ) (s : ℕ) (out : Writing) (err : Writing × Writing) (status : ℕ)

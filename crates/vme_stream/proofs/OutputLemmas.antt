@@ -1,11 +1,12 @@
 -- Writing a text in pieces, and one text after another.
 use Rattle.std.proofs.Common.{◌≡◌, ◌-◌, ℕ, List, ◌++◌, length, take, drop, sym, ap, ◌∙◌, append_assoc, take-append-drop}
-use Rattle.std.proofs.Common.{suc, ◌+◌, [], refl, subst}
+use Rattle.std.proofs.Common.{suc, ◌+◌, [], Option, refl, subst}
 use Rattle.std.proofs.Math.Seq.{take-append_seam, take-append-add}
 use Rattle.std.proofs.lemmas.List.{take_rest}
 use Rattle.std.specs.Io.KnownBytes.{Appends}
 use Rattle.std.proofs.KnownBytes.{Appends-nil, Appends-trans}
 use Rattle.vme_trace.specs.Streams.{Writing}
+use Rattle.vme_listing.specs.Written.{AppendsFront}
 use Rattle.vme_stream.specs.Outputs.{FailsToWrite, Writes}
 
 -- the next `n` bytes of `rest` were written, after `done`
@@ -18,6 +19,14 @@ append-next_written all done rest n split =
 -- `done` is the first `length done` bytes of `all`
 pub take-done : (all done rest : List ℕ) → all ≡ done ++ rest → done ≡ take (length done) all
 take-done all done rest split = sym (ap (take (length done)) split ∙ take-append_seam done rest)
+
+-- if a front of `text` was written, it is the first n bytes for some n
+pub AppendsFront-take : (old new : Option (List ℕ)) (text : List ℕ) → AppendsFront old new text → (n : ℕ)
+    × Appends old new
+    (take n text)
+AppendsFront-take old new text took =
+    let (front, rest, split, appended) = took in
+    (length front, subst (λ (bytes : List ℕ). Appends old new bytes) (take-done text front rest split) appended)
 
 -- ---- one text after another
 

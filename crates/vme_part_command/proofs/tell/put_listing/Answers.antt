@@ -1,6 +1,6 @@
 use Rattle.std.proofs.Common.{refl, inl, inr}
 use Rattle.std.proofs.KnownBytes.{Appends-nil}
-use Rattle.vme_part_command.proofs.EndLemmas.{AppendsFront-take}
+use Rattle.vme_stream.proofs.OutputLemmas.{AppendsFront-take}
 use Rattle.vme_part_command.proofs.tell.put_listing.Goals as goal
 
 pub returns-in-Ok : goal.returns-in-Ok
