@@ -4,7 +4,7 @@ ghost use Rattle.std.specs.Prelude.{◌≡◌, ◌+◌, ◌≤◌, ◌++◌, [],
 ghost use Rattle.vme_listing.specs.RowText.{hexadecimal};
 
 use std::marker::Model;
-use vme_listing::hexadecimal_digits;
+use vme_listing::{decimal_digits, hexadecimal_digits};
 
 /// The most bytes of a short text.
 pub(crate) const MOST: usize = 256;
@@ -61,16 +61,7 @@ impl ShortText {
         ensures text { self.new ≡ self.old ++ decimal number }
         ensures length { length self.new ≤ length self.old + 20 }
     {
-        let mut digits = [0; 20];
-        let mut start: usize = 20;
-        let mut rest = number;
-        while rest >= 10 {
-            start -= 1;
-            digits[start] = b'0' + (rest % 10) as u8;
-            rest /= 10;
-        }
-        start -= 1;
-        digits[start] = b'0' + rest as u8;
+        let (digits, start) = decimal_digits(number);
         self.push(&digits[start..]);
     }
 

@@ -1,15 +1,30 @@
 -- How the digits of a number follow from those of the number without its last digit, and which are its last ones.
 use Rattle.std.proofs.Common.{◌≡◌, ℕ, zero, suc, ◌+◌, ◌-◌, ◌/◌, ◌%◌, ◌^◌, ◌<◌, ◌≤◌, List, [], ◌∷◌, ◌++◌, length, drop}
-use Rattle.std.proofs.Common.{take, refl, sym, ap, ◌∙◌, arith, true, length-append}
+use Rattle.std.proofs.Common.{take, set, refl, sym, ap, ◌∙◌, arith, true, length-append}
 use Rattle.std.specs.Prelude.{decimal}
 use Rattle.std.specs.Fmt.{digit_glyph}
-use Rattle.std.proofs.lemmas.Fmt.{decimal_step}
+use Rattle.std.proofs.lemmas.Fmt.{decimal_digit, decimal_step, length-decimal-le}
+use Rattle.std.proofs.lemmas.Grind.{drop-set_at}
 use Rattle.std.proofs.lemmas.List.{drop-append-le, drop_all, take_rest}
 use Rattle.vme_listing.specs.RowText.{hexadecimal}
 
 -- a number of at least 10 has one digit more than the number without its last digit
 pub length-decimal : (n : ℕ) → 10 ≤ n → n < 2 ^ 64 → length (decimal n) ≡ length (decimal (n / 10)) + 1
 length-decimal n low high = omega (arith, ap length (decimal_step n low high), length-append {A = ℕ})
+
+-- a number below 2 ^ 32 has at most 10 digits
+pub decimal-short : (n : ℕ) → n < 2 ^ 32 → length (decimal n) ≤ 10
+decimal-short n h = length-decimal-le 10 n (omega arith) (omega arith) (omega arith)
+
+-- the first digit of n is set before its other ones, which stand from `start` on
+pub first_digit : (digits : List ℕ) (start rest n : ℕ) → rest < 10 → 0 < start → start ≤ length digits
+    → decimal rest ++ drop start digits ≡ decimal n → drop (start - 1) (set digits (start - 1) (48 + rest)) ≡ decimal n
+first_digit digits start rest n one some within all =
+    let next : start - 1 + 1 ≡ start = omega (arith, some) in
+    drop-set_at digits (start - 1) (start - 1) (48 + rest) refl (omega (arith, some, within))
+    ∙ ap (λ m. (48 + rest) ∷ drop m digits) next
+    ∙ ap (λ text. text ++ drop start digits) (sym (decimal_digit rest one))
+    ∙ all
 
 -- the k digits of n in base 16 are those of n / 16, one fewer, and then n % 16
 pub hexadecimal-last : (k n : ℕ) → 0 < k → hexadecimal k n ≡ hexadecimal (k - 1) (n / 16) ++ digit_glyph true (n % 16)

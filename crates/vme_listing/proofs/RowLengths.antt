@@ -1,11 +1,10 @@
 -- How long the text of a row is at most.
-use Rattle.std.proofs.Common.{◌≡◌, ℕ, ◌+◌, ◌/◌, ◌^◌, ◌<◌, ◌≤◌, Bool, true, false, length}
+use Rattle.std.proofs.Common.{◌≡◌, ℕ, ◌+◌, ◌/◌, ◌^◌, ◌≤◌, Bool, true, false, length}
 use Rattle.std.proofs.Common.{refl}
 use Rattle.std.proofs.Common.{arith, length-append}
 use Rattle.std.specs.Prelude.{Option, None, Some, ◌==◌, codes, decimal, nat_lt, nat_le, if◌then◌else◌}
 use Rattle.std.specs.Fmt.{digits}
 use Rattle.std.proofs.lemmas.Bool.{agree_below, agree_below_at, and_parts, eqb-true, leb-true, ltb-true}
-use Rattle.std.proofs.lemmas.Fmt.{length-decimal-le}
 use Rattle.vme_trace.specs.Cycle.{highest_address, is_extended, is_standard, is_short}
 use Rattle.vme_trace.specs.LineNumbers.{line_count}
 use Rattle.vme_trace.specs.Names.{line_name}
@@ -31,12 +30,8 @@ use Rattle.vme_listing.specs.declared.row.Row.TheVariants.{Start, Reset, OpenTen
 use Rattle.vme_listing.specs.declared.row.Row.TheVariants.{InterruptCycle, Transfer, PendingTransfer, Verdict}
 use Rattle.vme_listing.specs.declared.row.Version.{Version}
 use Rattle.vme_listing.proofs.Conjunctions.{and_parts-five, and_parts-four, and_parts-three}
-use Rattle.vme_listing.proofs.Digits.{length-hexadecimal}
+use Rattle.vme_listing.proofs.Digits.{decimal-short, length-hexadecimal}
 use Rattle.vme_listing.proofs.FrontHexadecimals.{lanes-length}
-
--- the decimal text of a number below 2^32 has at most 10 bytes
-decimal-short : (n : ℕ) → n < 2 ^ 32 → length (decimal n) ≤ 10
-decimal-short n h = length-decimal-le 10 n (omega arith) (omega arith) (omega arith)
 
 -- the decimal text of a number of a row has at most 10 bytes
 number-short : (n : ℕ) → is_number n ≡ true → length (decimal n) ≤ 10

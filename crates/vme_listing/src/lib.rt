@@ -59,7 +59,7 @@ pub use read::read_listing;
 pub use row::{AnswerLine, Direction, ListedVerdict, Row, Version};
 pub use row_reader::RowReader;
 pub use text::{
-    LONGEST_LINE, address_digits, answer_text, class_text, data_digits, direction_text,
-    hexadecimal_digits,
+    LONGEST_LINE, address_digits, answer_text, class_text, data_digits, decimal_digits,
+    direction_text, hexadecimal_digits,
 };
 pub use write::{Write, write_listing};

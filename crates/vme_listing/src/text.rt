@@ -1,7 +1,8 @@
 //! The text of the rows of a listing, in a buffer.
 #![tactic(auto, unfolding(crate::specs::RowText::row_text))]
 
-ghost use Rattle.std.specs.Prelude.{◌≡◌, ◌+◌, ◌<◌, ◌≤◌, ◌∷◌, ◌++◌, ◌↔◌, [], true, length, decimal, IsTrue};
+ghost use Rattle.std.specs.Prelude.{◌≡◌, ◌+◌, ◌<◌, ◌≤◌, ◌∷◌, ◌++◌, ◌↔◌, [], true, length, decimal, slice_range};
+ghost use Rattle.std.specs.Prelude.{IsTrue};
 ghost use Rattle.std.specs.Fmt.{digit_glyph};
 ghost use Rattle.vme_listing.specs.RowText.{end_instant_text, hexadecimal, address_digits, class_text, direction_text};
 ghost use Rattle.vme_listing.specs.RowText.{answer_text, digit_text, lanes_text, data_text, break_text, row_text};
@@ -117,16 +118,7 @@ impl RowBuffer {
         ensures text { self.new ≡ self.old ++ decimal number }
         ensures length { length self.new ≤ length self.old + 10 }
     {
-        let mut digits = [0; 10];
-        let mut start: usize = 10;
-        let mut rest = number;
-        while rest >= 10 {
-            start -= 1;
-            digits[start] = b'0' + (rest % 10) as u8;
-            rest /= 10;
-        }
-        start -= 1;
-        digits[start] = b'0' + rest as u8;
+        let (digits, start) = decimal_digits(u64::from(number));
         self.extend(&digits[start..]);
     }
 
@@ -473,6 +465,24 @@ pub fn data_digits(lanes: Lanes) -> [u8; 8]
         lane_digit(moved.has_digit(1), value / 0x10 % 16, flags / 2 % 2),
         lane_digit(moved.has_digit(0), value % 16, flags % 2),
     ]
+}
+
+/// The digits of a number in decimal, which are the last ones of the array, and where they start in it.
+pub fn decimal_digits(number: u64) -> ([u8; 20], usize)
+    ensures digits { slice_range result.0 result.1 20 ≡ decimal number }
+    ensures start { result.1 + length (decimal number) ≡ 20 }
+{
+    let mut digits = [0; 20];
+    let mut start: usize = 20;
+    let mut rest = number;
+    while rest >= 10 {
+        start -= 1;
+        digits[start] = b'0' + (rest % 10) as u8;
+        rest /= 10;
+    }
+    start -= 1;
+    digits[start] = b'0' + rest as u8;
+    (digits, start)
 }
 
 /// The eight digits of a number in base 16, the letters in upper case.
