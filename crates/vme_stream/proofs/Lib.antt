@@ -2,5 +2,4 @@ pub mod AnswerLemmas
 pub mod EndLemmas
 pub mod InputLemmas
 pub mod IntakeLemmas
-pub mod MessageLemmas
 pub mod OutputLemmas

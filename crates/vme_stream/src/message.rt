@@ -3,6 +3,7 @@
 ghost use Rattle.std.specs.Prelude.{◌≡◌, ◌+◌, ◌<◌, ◌≤◌, ◌∷◌, ◌++◌, [], length, decimal};
 
 use std::marker::Model;
+use vme_listing::decimal_digits;
 
 /// A text of at most 128 bytes.
 #[derive(Debug, Drop)]
@@ -48,15 +49,6 @@ impl Message {
         self.len += 1;
     }
 
-    /// The text with a byte more.
-    fn with_byte(mut self, byte: u8) -> Message
-        requires { length self < 128 }
-        ensures { result ≡ self ++ byte ∷ [] }
-    {
-        self.push(byte);
-        self
-    }
-
     /// The text with some bytes more.
     pub fn with(mut self, text: &[u8]) -> Message
         requires { length self + length text.now ≤ 128 }
@@ -69,33 +61,22 @@ impl Message {
         self
     }
 
-    /// The text with a number more, in decimal.
-    fn with_digits(self, number: u64) -> Message
-        requires { length self + length (decimal number) ≤ 128 }
-        ensures { result ≡ self ++ decimal number }
-    {
-        if number < 10 {
-            self.with_byte(b'0' + number as u8)
-        } else {
-            self.with_digits(number / 10)
-                .with_byte(b'0' + (number % 10) as u8)
-        }
-    }
-
     /// The text with a number more, in decimal, at most 20 digits.
     pub fn with_decimal(self, number: u64) -> Message
         requires { length self + 20 ≤ 128 }
         ensures text { result ≡ self ++ decimal number }
         ensures short { length result ≤ length self + 20 }
     {
-        self.with_digits(number)
+        let (digits, start) = decimal_digits(number);
+        self.with(&digits[start..])
     }
 
     /// The text with a line feed after it.
-    pub fn with_line_feed(self) -> Message
+    pub fn with_line_feed(mut self) -> Message
         requires { length self < 128 }
         ensures { result ≡ self ++ 10 ∷ [] }
     {
-        self.with_byte(b'\n')
+        self.push(b'\n');
+        self
     }
 }

@@ -1,15 +1,16 @@
-use Rattle.std.proofs.Common.{length, decimal, ap, length-append, arith}
-use Rattle.vme_stream.proofs.MessageLemmas.{length-decimal-20}
+use Rattle.std.proofs.Common.{◌++◌, length, ap, ◌∙◌, arith}
 use Rattle.vme_stream.proofs.message.Message.with_decimal.Goals as goal
 
-pub with_digits-requires : goal.with_digits-requires
-with_digits-requires c = omega (arith, c.requires, length-decimal-20 c.args.number c.ranges.number.fits)
+pub with-requires : goal.with-requires
+with-requires c =
+    let made = c.decimal_digits-digits.ensures in
+    omega (arith, c.requires, made.start, ap length made.digits)
+
+pub returns-clause-text : goal.returns-clause-text
+returns-clause-text c =
+    c.with.ensures.text ∙ ap (λ text. c.args.self ++ text) c.decimal_digits-digits.ensures.digits
 
 pub returns-clause-short : goal.returns-clause-short
 returns-clause-short c =
-    omega (
-      arith,
-      length-decimal-20 c.args.number c.ranges.number.fits,
-      ap length c.with_digits.ensures,
-      length-append c.args.self (decimal c.args.number),
-    )
+    let made = c.decimal_digits-digits.ensures in
+    omega (arith, c.with.ensures.long, made.start, ap length made.digits)
