@@ -40,13 +40,15 @@ impl Message {
         &self.bytes[..self.len]
     }
 
-    /// Appends a byte.
-    fn push(&mut self, byte: u8)
-        requires { length self.old < 128 }
-        ensures { self.new ≡ self.old ++ byte ∷ [] }
+    /// Appends some bytes.
+    fn push(&mut self, text: &[u8])
+        requires { length self.old + length text.now ≤ 128 }
+        ensures text { self.new ≡ self.old ++ text.now }
+        ensures length { length self.new ≡ length self.old + length text.now }
     {
-        self.bytes[self.len] = byte;
-        self.len += 1;
+        let end = self.len + text.len();
+        self.bytes[self.len..end].copy_from_slice(text);
+        self.len = end;
     }
 
     /// The text with some bytes more.
@@ -55,9 +57,7 @@ impl Message {
         ensures text { result ≡ self ++ text.now }
         ensures long { length result ≡ length self + length text.now }
     {
-        for byte in text {
-            self.push(*byte);
-        }
+        self.push(text);
         self
     }
 
@@ -72,11 +72,10 @@ impl Message {
     }
 
     /// The text with a line feed after it.
-    pub fn with_line_feed(mut self) -> Message
+    pub fn with_line_feed(self) -> Message
         requires { length self < 128 }
         ensures { result ≡ self ++ 10 ∷ [] }
     {
-        self.push(b'\n');
-        self
+        self.with(b"\n")
     }
 }
