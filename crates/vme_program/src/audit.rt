@@ -15,7 +15,7 @@ ghost use Rattle.vme_program.specs.declared.opening.OpenFilesError.TheVariants.{
 ghost use Rattle.vme_words.specs.OrderFaults.{HasUsageKind, IsOfWords};
 
 use crate::environment::{Environment, WriteResult};
-use crate::opening::{OpenFilesError, refuse, refuse_input};
+use crate::opening::{OpenFilesError, refuse_input};
 use crate::save::say;
 use std::alloc::{AllocError, Global};
 use vme_audit::Allowance;
@@ -23,7 +23,7 @@ use vme_audit_command::{AuditOptions, NamedDump, TestSuite, audit, junit_file};
 use vme_audit_lines::dump_head;
 use vme_commands::allowances_of;
 use vme_explain::FileId;
-use vme_stream::{Input, Refusal};
+use vme_stream::{Input, Refusal, tell_refusal};
 use vme_text::Text;
 use vme_trace::Sink;
 use vme_words::{AuditOrder, OrderFault, Task, task_fault};
@@ -71,7 +71,7 @@ pub fn audit_files<S: Environment, O: Sink, E: Sink>(
             Ok(audit_binding(alloc, environment, order, allowed, out, err))
         }
         Err(AllowancesError::Faulty(fault)) => Err(fault),
-        Err(AllowancesError::Memory) => Ok(refuse(&Refusal::Memory, err)),
+        Err(AllowancesError::Memory) => Ok(tell_refusal(&Refusal::Memory, err)),
     }
 }
 
@@ -164,7 +164,7 @@ fn audit_named<S: Environment, O: Sink, E: Sink>(
             err,
         ),
         Err(OpenFilesError::Unopened(name)) => refuse_file(alloc, name, b"cannot open", 3, err),
-        Err(OpenFilesError::Memory) => refuse(&Refusal::Memory, err),
+        Err(OpenFilesError::Memory) => tell_refusal(&Refusal::Memory, err),
     }
 }
 
@@ -414,7 +414,7 @@ fn save_cases<S: Environment, E: Sink>(
             end_cases(alloc, path, written, status, err)
         }
         Err(_) => {
-            let memory = refuse(&Refusal::Memory, err);
+            let memory = tell_refusal(&Refusal::Memory, err);
             if status == 5 { 5 } else { memory }
         }
     }
@@ -451,7 +451,7 @@ pub(crate) fn refuse_file<E: Sink>(
             say(text.as_bytes(), err);
             status
         }
-        Err(_) => refuse(&Refusal::Memory, err),
+        Err(_) => tell_refusal(&Refusal::Memory, err),
     }
 }
 

@@ -1,7 +1,7 @@
 //! The files that an order names, opened, and the message about one that can't be.
 
 ghost use Rattle.std.specs.Prelude.{◌≡◌, IfErr, IfOk, Some, string_bytes};
-ghost use Rattle.vme_stream.specs.Texts.{line_of, refusal_status, refusal_text};
+ghost use Rattle.vme_stream.specs.Texts.{line_of, refusal_text};
 ghost use Rattle.vme_stream.specs.declared.refusal.Refusal.TheVariants.{CannotOpen};
 ghost use Rattle.vme_stream.specs.Outputs.{TriesToWrite};
 ghost use Rattle.vme_program.specs.Openings.{IsFirstUnopenedInput};
@@ -9,7 +9,7 @@ ghost use Rattle.vme_program.specs.declared.opening.OpenFilesError.TheVariants.{
 
 use crate::environment::Environment;
 use std::alloc::AllocFailed;
-use vme_stream::{Input, Refusal, complain, refusal_line};
+use vme_stream::{Input, Refusal, tell_refusal};
 use vme_trace::Sink;
 use vme_words::RecordingFiles;
 
@@ -55,15 +55,5 @@ pub(crate) fn refuse_input<E: Sink>(input: Input, err: &mut E) -> u8
     ensures told { TriesToWrite (E.writing err.old) (E.writing err.new) (line_of (refusal_text (CannotOpen input))) }
     ensures status { result ≡ 3 }
 {
-    complain(err, refusal_line(&Refusal::CannotOpen(input)));
-    3
-}
-
-/// Says why there is no answer. The answer is the exit status.
-pub(crate) fn refuse<E: Sink>(refusal: &Refusal, err: &mut E) -> u8
-    ensures told { TriesToWrite (E.writing err.old) (E.writing err.new) (line_of (refusal_text refusal.now)) }
-    ensures status { result ≡ refusal_status refusal.now }
-{
-    complain(err, refusal_line(refusal));
-    refusal.status()
+    tell_refusal(&Refusal::CannotOpen(input), err)
 }

@@ -7,12 +7,12 @@ ghost use Rattle.vme_program.specs.declared.opening.OpenFilesError.TheVariants.{
 
 use crate::audit::refuse_file;
 use crate::environment::Environment;
-use crate::opening::{OpenFilesError, open_recording, refuse, refuse_input};
+use crate::opening::{OpenFilesError, open_recording, refuse_input};
 use std::alloc::Global;
 use vme_part_command::{
     NamedPart, PartOptions, list_whole, tell_whole, write_joined, write_part_of,
 };
-use vme_stream::Refusal;
+use vme_stream::{Refusal, tell_refusal};
 use vme_trace::{Sink, Source};
 use vme_words::{JoinOrder, PartOrder, TellOrder};
 
@@ -94,7 +94,7 @@ pub fn join_files<S: Environment, O: Sink, E: Sink>(
     match open_parts(alloc, environment, order.parts.as_slice()) {
         Ok(mut parts) => write_joined(alloc, parts.as_mut_slice(), out, err),
         Err(OpenFilesError::Unopened(name)) => refuse_file(alloc, name, b"cannot open", 3, err),
-        Err(OpenFilesError::Memory) => refuse(&Refusal::Memory, err),
+        Err(OpenFilesError::Memory) => tell_refusal(&Refusal::Memory, err),
     }
 }
 
@@ -114,7 +114,7 @@ pub fn tell_files<S: Environment, O: Sink, E: Sink>(
     match open_parts(alloc, environment, order.parts.as_slice()) {
         Ok(mut parts) => tell_opened(alloc, order, parts.as_mut_slice(), out, err),
         Err(OpenFilesError::Unopened(name)) => refuse_file(alloc, name, b"cannot open", 3, err),
-        Err(OpenFilesError::Memory) => refuse(&Refusal::Memory, err),
+        Err(OpenFilesError::Memory) => tell_refusal(&Refusal::Memory, err),
     }
 }
 

@@ -5,10 +5,9 @@ ghost use Rattle.vme_program.specs.Saves.{EndsWriting, MayBeSaved, RefusesPlace,
 ghost use Rattle.vme_stream.specs.Outputs.{TriesToWrite};
 
 use crate::environment::{Environment, WriteResult};
-use crate::opening::refuse;
 use std::alloc::Global;
 use vme_explain::{FileId, SaveRefusal, save_refusal, save_refusal_text};
-use vme_stream::{Refusal, cannot_write_line, complain, write_all};
+use vme_stream::{Refusal, cannot_write_line, complain, tell_refusal, write_all};
 use vme_trace::Sink;
 
 /// Which files the inputs are.
@@ -62,7 +61,7 @@ fn end_writing<E: Sink>(written: WriteResult, status: u8, err: &mut E) -> u8
             complain(err, cannot_write_line());
             5
         }
-        WriteResult::Memory => refuse(&Refusal::Memory, err),
+        WriteResult::Memory => tell_refusal(&Refusal::Memory, err),
     }
 }
 
@@ -80,7 +79,7 @@ pub(crate) fn refuse_place<E: Sink>(
             say(text.as_bytes(), err);
             3
         }
-        Err(_) => refuse(&Refusal::Memory, err),
+        Err(_) => tell_refusal(&Refusal::Memory, err),
     }
 }
 

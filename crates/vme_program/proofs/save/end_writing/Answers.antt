@@ -12,6 +12,6 @@ returns-in-Failed g c =
 
 pub returns-in-Memory : goal.returns-in-Memory
 returns-in-Memory g c =
-    let err : Writing × Writing = (g.E.Sink.writing c.args.err.now, g.E.Sink.writing c.refuse.new.err) in
-    let Ends : WriteResult → Type 0 = λ w. EndsWriting w c.args.status err c.refuse.result in
-    subst Ends (sym c.in-Memory.is) (c.refuse.ensures.told, c.refuse.ensures.status)
+    let err : Writing × Writing = (g.E.Sink.writing c.args.err.now, g.E.Sink.writing c.tell_refusal.new.err) in
+    let Ends : WriteResult → Type 0 = λ w. EndsWriting w c.args.status err c.tell_refusal.result in
+    subst Ends (sym c.in-Memory.is) (c.tell_refusal.ensures.told, c.tell_refusal.ensures.status)

@@ -10,4 +10,4 @@ returns-in-Ok g c = inl (
 )
 
 pub returns-in-Err : goal.returns-in-Err
-returns-in-Err g c = inr (c.refuse.ensures.told, c.refuse.ensures.status)
+returns-in-Err g c = inr (c.tell_refusal.ensures.told, c.tell_refusal.ensures.status)
