@@ -12,7 +12,7 @@ use crate::judged_recording::judged_recording;
 use crate::workers::Workers;
 use std::alloc::Global;
 use std::thread::Threads;
-use vme_stream::{Refusal, complain, refusal_line, tell_verdict};
+use vme_stream::{Refusal, tell_refusal, tell_verdict};
 use vme_summary::Judge;
 use vme_trace::{Sink, Source, Verdict};
 
@@ -85,10 +85,7 @@ pub fn check_by<R: Threads + Sync, B: Source, D: Source, O: Sink, E: Sink>(
 {
     match judge(alloc, workers, binding, dump, block, skew) {
         Ok(verdict) => tell_verdict(&verdict, out, err),
-        Err(refusal) => {
-            complain(err, refusal_line(&refusal));
-            refusal.status()
-        }
+        Err(refusal) => tell_refusal(&refusal, err),
     }
 }
 

@@ -16,7 +16,7 @@ use crate::workers::Workers;
 use std::alloc::Global;
 use std::thread::Threads;
 use vme_listing::{Listing, write_listing};
-use vme_stream::{Refusal, cannot_write_line, complain, listing_status, refusal_line};
+use vme_stream::{Refusal, cannot_write_line, complain, listing_status, tell_refusal};
 use vme_summary::Lister;
 use vme_trace::{Sink, Source};
 
@@ -87,10 +87,7 @@ pub fn list_by<R: Threads + Sync, B: Source, D: Source, O: Sink, E: Sink>(
 {
     match listing(alloc, workers, binding, dump, block, skew) {
         Ok(listing) => tell(&listing, out, err),
-        Err(refusal) => {
-            complain(err, refusal_line(&refusal));
-            refusal.status()
-        }
+        Err(refusal) => tell_refusal(&refusal, err),
     }
 }
 

@@ -21,7 +21,7 @@ returns-in-Err g c =
       AnswerGives-from_GivesListing c.in-Err.refusal _ given,
       inl (record {
         out_is = (Appends-nil _, refl);
-        err_is = rw c.refusal_line.ensures at c.complain.ensures;
-        status_is = c.status.ensures;
+        err_is = c.tell_refusal.ensures.told;
+        status_is = c.tell_refusal.ensures.status;
       }),
     )
