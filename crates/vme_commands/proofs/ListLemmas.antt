@@ -1,6 +1,6 @@
 -- How `list` ends: with the status of the verdict, and what is written is the text of the listing or a first part of
 -- it.
-use Rattle.std.proofs.Common.{◌≡◌, ◌≤◌, ◌↔◌, ℕ, suc, Bool, true, false, List, [], ◌∷◌, ◌++◌, length, take, refl}
+use Rattle.std.proofs.Common.{◌≡◌, ◌≤◌, ◌↔◌, ℕ, suc, Bool, true, false, List, [], ◌∷◌, ◌++◌, take, refl}
 use Rattle.std.proofs.Common.{ap, subst, ◌∙◌}
 use Rattle.std.specs.Io.KnownBytes.{Appends}
 use Rattle.std.specs.Prelude.{Option, Some, None, Result, Ok, Err, flat_map, if◌then◌else◌}
@@ -29,7 +29,7 @@ use Rattle.vme_stream.proofs.EndLemmas.{verdict_status-small}
 use Rattle.vme_listing.specs.Written.{AppendsFront}
 use Rattle.vme_stream.specs.Inputs.{IsReadWhole}
 use Rattle.vme_trace.specs.Streams.{Reading, Writing}
-use Rattle.vme_stream.proofs.OutputLemmas.{take-done}
+use Rattle.vme_stream.proofs.OutputLemmas.{AppendsFront-take}
 use Rattle.vme_commands.specs.Listings.{GivesListing, WritesListing, listing_answer_by, listing_answer_of}
 use Rattle.vme_stream.specs.ListingStatus.{listing_status, rows_status, status_of_last, verdict_row_status}
 use Rattle.vme_commands.specs.Settled.{settled_recording}
@@ -86,13 +86,6 @@ AnswerGives-from_GivesListing r recording given = given
 
 -- ---- what was written
 
--- if a prefix of `text` was taken, it is `take n text` for some n
-pub Appends-front : (old new : Option (List ℕ)) (text : List ℕ) → AppendsFront old new text → (n : ℕ) × Appends old new
-    (take n text)
-Appends-front old new text took =
-    let (front, rest, split, appended) = took in
-    (length front, subst (λ (bytes : List ℕ). Appends old new bytes) (take-done text front rest split) appended)
-
 -- if the text of a listing was written, so was that of an equal listing
 pub Appends-same_listing : (old new : Option (List ℕ)) (listing same : Listed) → listing ≡ same → Appends old new
     (text_of listing) → Appends old new (text_of same)
@@ -103,7 +96,7 @@ pub Appends-front_of_same_listing : (old new : Option (List ℕ)) (listing same 
     → AppendsFront old new
     (text_of listing)
     → (n : ℕ) × Appends old new (take n (text_of same))
-Appends-front_of_same_listing old new listing same is took = Appends-front old new (text_of same)
+Appends-front_of_same_listing old new listing same is took = AppendsFront-take old new (text_of same)
     (subst (λ (l : Listed). AppendsFront old new (text_of l)) is took)
 
 -- ---- how it ends
