@@ -16,7 +16,7 @@ use vme_audit::Allowance;
 use vme_audit_lines::{dump_head, refusal_text};
 use vme_bind::Binding;
 use vme_stream::{
-    Input, Refusal, binding_from, cannot_write_line, complain, refusal_line, write_all,
+    Input, Refusal, binding_from, cannot_write_line, complain, tell_refusal, write_all,
 };
 use vme_text::Text;
 use vme_trace::{Sink, Source};
@@ -93,10 +93,7 @@ pub fn audit<B: Source, D: Source, O: Sink, E: Sink>(
             true,
             audit_all(alloc, &bound, dumps, options, suite, out, err),
         ),
-        Err(refusal) => {
-            complain(err, refusal_line(&refusal));
-            (false, refusal.status())
-        }
+        Err(refusal) => (false, tell_refusal(&refusal, err)),
     }
 }
 
@@ -205,10 +202,7 @@ fn keep<E: Sink>(
 {
     match suite.take(alloc, name, case, refusal) {
         Ok(()) => status,
-        Err(_) => {
-            complain(err, refusal_line(&Refusal::Memory));
-            4
-        }
+        Err(_) => tell_refusal(&Refusal::Memory, err),
     }
 }
 
@@ -221,10 +215,7 @@ fn write_refusal<E: Sink>(alloc: Global, name: &[u8], refusal: &Refusal, err: &m
             try_to_write(text.as_bytes(), err);
             refusal.status()
         }
-        Err(_) => {
-            complain(err, refusal_line(&Refusal::Memory));
-            4
-        }
+        Err(_) => tell_refusal(&Refusal::Memory, err),
     }
 }
 

@@ -10,8 +10,8 @@ returns-in-Err-clause-refused g c =
       read = read;
       gives = gives;
       out_is = Writes-nothing (g.O.Sink.writing c.args.out.now);
-      err_is = rw c.refusal_line.ensures at c.complain.ensures;
-      status_is = c.status.ensures;
+      err_is = c.tell_refusal.ensures.told;
+      status_is = c.tell_refusal.ensures.status;
     }
 
 pub returns-in-Ok-clause-audited : goal.returns-in-Ok-clause-audited

@@ -1,0 +1,5 @@
+use Rattle.std.proofs.Common.{inr}
+use Rattle.vme_audit_command.proofs.command.keep.Goals as goal
+
+pub returns-in-Err : goal.returns-in-Err
+returns-in-Err g c = inr (c.tell_refusal.ensures.told, c.tell_refusal.ensures.status)
