@@ -25,9 +25,7 @@ use std::alloc::Global;
 use vme_bind::{BindFault, Binding};
 use vme_cert::Answer;
 use vme_dump_input::{BufferedInput, DumpAfterDefinitions, dump_input, read_definitions};
-use vme_stream::{
-    Message, Refusal, binding_from, cannot_write_line, complain, refusal_line, write_message,
-};
+use vme_stream::{Message, Refusal, binding_from, tell_refusal, write_answer};
 use vme_trace::{Sink, Source};
 
 /// Says whether the listing is that of the recording that the binding makes of the dump, settled, i.e. deskewed, by
@@ -95,25 +93,11 @@ fn tell<O: Sink, E: Sink>(found: Result<Answer, Refusal>, out: &mut O, err: &mut
         (O.writing out.old, O.writing out.new) (E.writing err.old, E.writing err.new) result }
 {
     match found {
-        Ok(found) => tell_found(found, out, err),
-        Err(refusal) => {
-            complain(err, refusal_line(&refusal));
-            refusal.status()
+        Ok(found) => {
+            let line = confirmation_line(found);
+            write_answer(line.as_bytes(), confirmation_status(found), out, err)
         }
-    }
-}
-
-/// Writes an answer. Returns the exit status.
-fn tell_found<O: Sink, E: Sink>(found: Answer, out: &mut O, err: &mut E) -> u8
-    ensures { Ends (confirmation_answer_by (Ok found))
-        (O.writing out.old, O.writing out.new) (E.writing err.old, E.writing err.new) result }
-{
-    match write_message(out, confirmation_line(found)) {
-        Ok(()) => confirmation_status(found),
-        Err(_) => {
-            complain(err, cannot_write_line());
-            5
-        }
+        Err(refusal) => tell_refusal(&refusal, err),
     }
 }
 
