@@ -22,7 +22,6 @@ use crate::explained_input::{KeptDump, taken_dump};
 use crate::refused::{
     NamedInput, complain_with, show_binding, show_fault_context, show_suggestions,
 };
-use crate::telling::tell_bytes;
 use std::alloc::{AllocError, Global};
 use std::marker::Brand;
 use vme_account::{Account, AccountVisitor, NoAccount};
@@ -31,7 +30,9 @@ use vme_commands::settled_visitor;
 use vme_explain::{Subject, explanation, save_file};
 use vme_picture::picture;
 use vme_skew::{GhostSkew, SettlingVisitor};
-use vme_stream::{Input, Refusal, binding_in, read_all, verdict_line, verdict_status};
+use vme_stream::{
+    Input, Refusal, binding_in, read_all, verdict_line, verdict_status, write_answer,
+};
 use vme_summary::NoVerdict;
 use vme_text::Text;
 use vme_trace::{Sink, Source, Verdict};
@@ -109,7 +110,7 @@ fn tell_explained<O: Sink, E: Sink>(
                 text,
                 files,
             } = told;
-            let status = tell_bytes(text.as_bytes(), verdict_status(&verdict), out, err);
+            let status = write_answer(text.as_bytes(), verdict_status(&verdict), out, err);
             (status, Some(files))
         }
         Err(refusal) => {

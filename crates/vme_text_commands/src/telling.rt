@@ -2,10 +2,10 @@
 
 ghost use Rattle.std.specs.Prelude.{[]};
 ghost use Rattle.vme_stream.specs.Ends.{Ends};
-ghost use Rattle.vme_text_commands.specs.TextAnswers.{text_answer, text_answer_by};
+ghost use Rattle.vme_text_commands.specs.TextAnswers.{text_answer_by};
 ghost use Rattle.vme_stream.specs.Outputs.{TriesToWrite};
 
-use vme_stream::{Refusal, cannot_write_line, complain, refusal_line, write_all};
+use vme_stream::{Refusal, tell_refusal, write_all, write_answer};
 use vme_text::Text;
 use vme_trace::Sink;
 
@@ -21,11 +21,8 @@ pub fn tell_text<O: Sink, E: Sink>(
         (O.writing out.old, O.writing out.new) (E.writing err.old, E.writing err.new) result }
 {
     match made {
-        Ok(text) => tell_bytes(text.as_bytes(), status, out, err),
-        Err(refusal) => {
-            complain(err, refusal_line(refusal));
-            refusal.status()
-        }
+        Ok(text) => write_answer(text.as_bytes(), status, out, err),
+        Err(refusal) => tell_refusal(refusal, err),
     }
 }
 
@@ -34,18 +31,4 @@ pub fn say<W: Sink>(sink: &mut W, text: &[u8])
     ensures { TriesToWrite (W.writing sink.old) (W.writing sink.new) text.now }
 {
     let _ = write_all(sink, text);
-}
-
-/// Writes `bytes` to `out`, and returns `status`. Where they can't be written, the status is 5.
-pub fn tell_bytes<O: Sink, E: Sink>(bytes: &[u8], status: u8, out: &mut O, err: &mut E) -> u8
-    ensures { Ends (text_answer status bytes.now)
-        (O.writing out.old, O.writing out.new) (E.writing err.old, E.writing err.new) result }
-{
-    match write_all(out, bytes) {
-        Ok(()) => status,
-        Err(_) => {
-            complain(err, cannot_write_line());
-            5
-        }
-    }
 }

@@ -10,9 +10,8 @@ ghost use Rattle.vme_text_commands.specs.TextAnswers.{IsTextOf, TellsVariables, 
 ghost use Rattle.vme_stream.specs.declared.refusal.Refusal.{Refusal};
 
 use crate::refused::{NamedInput, complain_with, show_dump};
-use crate::telling::tell_bytes;
 use std::alloc::Global;
-use vme_stream::{Input, Refusal, read_all};
+use vme_stream::{Input, Refusal, read_all, write_answer};
 use vme_text::Text;
 use vme_trace::{Sink, Source};
 use vme_variables::variables_text;
@@ -47,7 +46,7 @@ fn tell_or_complain<O: Sink, E: Sink>(
         (O.writing out.old, O.writing out.new) (E.writing err.old, E.writing err.new) result }
 {
     match made {
-        Ok(text) => tell_bytes(text.as_bytes(), 0, out, err),
+        Ok(text) => write_answer(text.as_bytes(), 0, out, err),
         Err(refusal) => {
             complain_with(alloc, err, refusal, shown);
             refusal.status()

@@ -4,7 +4,7 @@ use Rattle.vme_text_commands.proofs.explain.tell_explained.Goals as goal
 
 pub returns-in-Ok-clause-told : goal.returns-in-Ok-clause-told
 returns-in-Ok-clause-told g c =
-    rw c.in-Ok.is ([], tt, rw (c.verdict_status.ensures, c.as_bytes.ensures) at c.tell_bytes-status.ensures)
+    rw c.in-Ok.is ([], tt, rw (c.verdict_status.ensures, c.as_bytes.ensures) at c.write_answer-status.ensures)
 
 pub returns-in-Err-clause-told : goal.returns-in-Err-clause-told
 returns-in-Err-clause-told g c =

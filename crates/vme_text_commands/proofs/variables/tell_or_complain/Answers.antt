@@ -4,7 +4,7 @@ use Rattle.std.proofs.KnownBytes.{Appends-nil}
 use Rattle.vme_text_commands.proofs.variables.tell_or_complain.Goals as goal
 
 pub returns-in-Ok : goal.returns-in-Ok
-returns-in-Ok g c = rw c.in-Ok.is ([], tt, rw c.as_bytes.ensures at c.tell_bytes.ensures)
+returns-in-Ok g c = rw c.in-Ok.is ([], tt, rw c.as_bytes.ensures at c.write_answer.ensures)
 
 pub returns-in-Err : goal.returns-in-Err
 returns-in-Err g c =
