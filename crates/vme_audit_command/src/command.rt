@@ -1,7 +1,6 @@
 //! The audit of several dumps by one binding.
 
 ghost use Rattle.std.specs.Prelude.{◌≡◌, false, true, [], ◌∷◌, map, IfOk};
-ghost use Rattle.vme_stream.specs.Outputs.{TriesToWrite};
 ghost use Rattle.vme_audit_command.specs.Audits.{RefusesBinding};
 ghost use Rattle.vme_audit_command.specs.DumpAnswers.{given_options};
 ghost use Rattle.vme_audit_command.specs.DumpEnds.{AuditsNamed, EndsWithReason, EndsWithStatus, WritesEnd};
@@ -15,9 +14,7 @@ use std::alloc::{AllocError, Global};
 use vme_audit::Allowance;
 use vme_audit_lines::{dump_head, refusal_text};
 use vme_bind::Binding;
-use vme_stream::{
-    Input, Refusal, binding_from, cannot_write_line, complain, tell_refusal, write_all,
-};
+use vme_stream::{Input, Refusal, binding_from, cannot_write_line, complain, say, tell_refusal};
 use vme_text::Text;
 use vme_trace::{Sink, Source};
 
@@ -212,18 +209,11 @@ fn write_refusal<E: Sink>(alloc: Global, name: &[u8], refusal: &Refusal, err: &m
 {
     match refusal_of(alloc, name, refusal) {
         Ok(text) => {
-            try_to_write(text.as_bytes(), err);
+            say(err, text.as_bytes());
             refusal.status()
         }
         Err(_) => tell_refusal(&Refusal::Memory, err),
     }
-}
-
-/// Writes a line. If that fails, a prefix of it is written.
-fn try_to_write<E: Sink>(line: &[u8], err: &mut E)
-    ensures { TriesToWrite (E.writing err.old) (E.writing err.new) line.now }
-{
-    let _ = write_all(err, line);
 }
 
 /// The line with the reason why a dump has no outcome.

@@ -10,7 +10,7 @@ ghost use Rattle.vme_part_command.specs.Lines.{input_text};
 
 use std::alloc::{AllocError, Global};
 use vme_audit_lines::dump_head;
-use vme_stream::{Message, Refusal, complain, tell_refusal, write_all};
+use vme_stream::{Message, Refusal, complain, say, tell_refusal};
 use vme_text::Text;
 use vme_trace::Sink;
 
@@ -28,16 +28,6 @@ pub(crate) fn refuse<E: Sink>(line: Message, err: &mut E) -> u8
 {
     complain(err, line);
     3
-}
-
-/// Writes `bytes`. If that fails, nothing else is done.
-fn tell_bytes<E: Sink>(err: &mut E, bytes: &[u8])
-    ensures { TriesToWrite (E.writing err.old) (E.writing err.new) bytes.now }
-{
-    match write_all(err, bytes) {
-        Ok(()) => {}
-        Err(_) => {}
-    }
 }
 
 /// The line that `what` is wrong with the input `name`, in which bytes that a line can't have are `?`.
@@ -60,7 +50,7 @@ pub(crate) fn tell_input<E: Sink>(alloc: Global, name: &[u8], what: &[u8], err: 
 {
     match input_line(alloc, name, what) {
         Ok(line) => {
-            tell_bytes(err, line.as_bytes());
+            say(err, line.as_bytes());
             3
         }
         Err(_) => no_memory(err),

@@ -16,14 +16,13 @@ ghost use Rattle.vme_words.specs.OrderFaults.{HasUsageKind, IsOfWords};
 
 use crate::environment::{Environment, WriteResult};
 use crate::opening::{OpenFilesError, refuse_input};
-use crate::save::say;
 use std::alloc::{AllocError, Global};
 use vme_audit::Allowance;
 use vme_audit_command::{AuditOptions, NamedDump, TestSuite, audit, junit_file};
 use vme_audit_lines::dump_head;
 use vme_commands::allowances_of;
 use vme_explain::FileId;
-use vme_stream::{Input, Refusal, tell_refusal};
+use vme_stream::{Input, Refusal, say, tell_refusal};
 use vme_text::Text;
 use vme_trace::Sink;
 use vme_words::{AuditOrder, OrderFault, Task, task_fault};
@@ -448,7 +447,7 @@ pub(crate) fn refuse_file<E: Sink>(
 {
     match file_text(alloc, name, why) {
         Ok(text) => {
-            say(text.as_bytes(), err);
+            say(err, text.as_bytes());
             status
         }
         Err(_) => tell_refusal(&Refusal::Memory, err),

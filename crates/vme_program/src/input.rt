@@ -7,7 +7,7 @@ use std::alloc::Global;
 use std::thread::Threads;
 use vme_commands::check::check;
 use vme_commands::{BLOCK, BUILT_IN, READS_TERMINAL};
-use vme_stream::{Bytes, write_all};
+use vme_stream::{Bytes, say};
 use vme_trace::Sink;
 
 /// Judges the dump on standard input by the built-in binding. Where standard input is a terminal, it says first that it
@@ -43,6 +43,6 @@ fn say_first<E: Sink>(is_terminal: bool, err: &mut E)
     ensures { SaysFirst is_terminal (E.writing err.old) (E.writing err.new) }
 {
     if is_terminal {
-        let _ = write_all(err, READS_TERMINAL);
+        say(err, READS_TERMINAL);
     }
 }

@@ -2,12 +2,11 @@
 //! itself.
 
 ghost use Rattle.vme_program.specs.Saves.{EndsWriting, MayBeSaved, RefusesPlace, Saves};
-ghost use Rattle.vme_stream.specs.Outputs.{TriesToWrite};
 
 use crate::environment::{Environment, WriteResult};
 use std::alloc::Global;
 use vme_explain::{FileId, SaveRefusal, save_refusal, save_refusal_text};
-use vme_stream::{Refusal, cannot_write_line, complain, tell_refusal, write_all};
+use vme_stream::{Refusal, cannot_write_line, complain, say, tell_refusal};
 use vme_trace::Sink;
 
 /// Which files the inputs are.
@@ -76,16 +75,9 @@ pub(crate) fn refuse_place<E: Sink>(
 {
     match save_refusal_text(alloc, path, refusal) {
         Ok(text) => {
-            say(text.as_bytes(), err);
+            say(err, text.as_bytes());
             3
         }
         Err(_) => tell_refusal(&Refusal::Memory, err),
     }
-}
-
-/// Writes a text. A failure is ignored.
-pub(crate) fn say<E: Sink>(text: &[u8], err: &mut E)
-    ensures { TriesToWrite (E.writing err.old) (E.writing err.new) text.now }
-{
-    let _ = write_all(err, text);
 }

@@ -7,8 +7,9 @@
 //!
 //! - `input`: [`read_all`] reads a source to its end.
 //! - `byte_consumer`: [`read_by`] gives the bytes to a consumer as they come.
-//! - `output`: [`write_all`] writes until all is taken or a write fails; [`write_answer`] writes what a
-//!   command answers, and [`tell_refusal`] why it has no answer. Both give the status.
+//! - `output`: [`write_all`] writes until all is taken or a write fails, and [`say`] ignores that.
+//!   [`write_answer`] writes what a command answers, and [`tell_refusal`] why it has no answer.
+//!   These two give the status.
 //! - `io`: [`Io`] makes a source or a sink of std's readers and writers; [`Bytes`] is a source of a
 //!   slice.
 //! - `message`: a line of text that takes no memory.
@@ -67,7 +68,7 @@ pub use input::{InFault, read_all};
 pub use io::{Bytes, Io};
 pub use listing::listing_status;
 pub use message::Message;
-pub use output::{complain, tell_refusal, write_all, write_answer, write_message};
+pub use output::{complain, say, tell_refusal, write_all, write_answer};
 pub use recording::{binding_from, binding_in, capture_from, recorded_from, recorded_in};
 pub use refusal::{Input, Refusal};
 pub use text::{cannot_write_line, refusal_line, verdict_line, verdict_status};

@@ -25,19 +25,18 @@ pub fn write_all<W: Sink>(sink: &mut W, bytes: &[u8]) -> Result<(), Failed>
     Ok(())
 }
 
-/// Writes all of a message. After a failure a prefix of it was written.
-pub fn write_message<W: Sink>(sink: &mut W, message: Message) -> Result<(), Failed>
-    ensures { MatchResult result (λ _. Writes (W.writing sink.old) (W.writing sink.new) message)
-        (λ _. FailsToWrite (W.writing sink.old) (W.writing sink.new) message) }
+/// Writes a text beside an answer, or in place of one. After a failure, which is ignored, a prefix of it was written.
+pub fn say<W: Sink>(sink: &mut W, text: &[u8])
+    ensures { TriesToWrite (W.writing sink.old) (W.writing sink.new) text.now }
 {
-    write_all(sink, message.as_bytes())
+    let _ = write_all(sink, text);
 }
 
 /// Writes why a command has no answer. Where that fails, nothing else is done.
 pub fn complain<W: Sink>(sink: &mut W, line: Message)
     ensures { TriesToWrite (W.writing sink.old) (W.writing sink.new) line }
 {
-    let _ = write_message(sink, line);
+    say(sink, line.as_bytes());
 }
 
 /// Writes the answer `bytes` to `out`, and returns its status. If that fails, writes to `err` that it can't be written,

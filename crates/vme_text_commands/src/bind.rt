@@ -19,12 +19,11 @@ ghost use Rattle.vme_find.specs.Recordings.{AreSlots};
 use crate::fault_context::FaultContext;
 use crate::refused::{complain_with, show_fault_context};
 use crate::surveyed_input::SurveyedInput;
-use crate::telling::say;
 use std::alloc::Global;
 use vcd_read::VcdFault;
 use vme_declarations::{SurveyedDump, surveys_are_of_dumps};
 use vme_find::{FindFault, FoundBinding, write_binding};
-use vme_stream::{Input, Message, Refusal, cannot_write_line, complain, read_by, write_all};
+use vme_stream::{Input, Message, Refusal, cannot_write_line, complain, read_by, say, write_all};
 use vme_text::Text;
 use vme_trace::{Sink, Source};
 

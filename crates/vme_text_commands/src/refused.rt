@@ -8,12 +8,11 @@ ghost use Rattle.vme_stream.specs.Outputs.{TriesToWrite};
 
 use crate::fault_context::FaultContext;
 use crate::suggestions::{FaultySource, push_nearest, push_widths};
-use crate::telling::say;
 use std::alloc::{AllocError, Global};
 use vcd_read::{FaultKind, Variable, VcdFault};
 use vme_bind::BindFaultKind;
 use vme_faults::{FileKind, RefusalKind, push_page};
-use vme_stream::{Refusal, complain, refusal_line};
+use vme_stream::{Refusal, complain, refusal_line, say};
 use vme_text::{Text, push_escaped};
 use vme_trace::Sink;
 

@@ -3,9 +3,8 @@
 ghost use Rattle.std.specs.Prelude.{[]};
 ghost use Rattle.vme_stream.specs.Ends.{Ends};
 ghost use Rattle.vme_text_commands.specs.TextAnswers.{text_answer_by};
-ghost use Rattle.vme_stream.specs.Outputs.{TriesToWrite};
 
-use vme_stream::{Refusal, tell_refusal, write_all, write_answer};
+use vme_stream::{Refusal, tell_refusal, write_answer};
 use vme_text::Text;
 use vme_trace::Sink;
 
@@ -24,11 +23,4 @@ pub fn tell_text<O: Sink, E: Sink>(
         Ok(text) => write_answer(text.as_bytes(), status, out, err),
         Err(refusal) => tell_refusal(refusal, err),
     }
-}
-
-/// Writes a text beside an answer. A failure is ignored.
-pub fn say<W: Sink>(sink: &mut W, text: &[u8])
-    ensures { TriesToWrite (W.writing sink.old) (W.writing sink.new) text.now }
-{
-    let _ = write_all(sink, text);
 }

@@ -3,7 +3,7 @@ use Rattle.vme_part_command.proofs.complaints.tell_input.Goals as goal
 
 pub returns-in-Ok : goal.returns-in-Ok
 returns-in-Ok g c = inl (record {
-  err_is = rw (c.as_bytes.ensures, c.in-Ok.ensures) at c.tell_bytes.ensures;
+  err_is = rw (c.as_bytes.ensures, c.in-Ok.ensures) at c.say.ensures;
   status_is = refl;
 })
 

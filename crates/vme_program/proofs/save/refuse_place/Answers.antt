@@ -4,7 +4,7 @@ use Rattle.vme_program.proofs.save.refuse_place.Goals as goal
 
 pub returns-in-Ok : goal.returns-in-Ok
 returns-in-Ok g c = inl (
-  subst (λ (line : List ℕ). TriesToWrite (g.E.Sink.writing c.args.err.now) (g.E.Sink.writing c.say.new.err) line)
+  subst (λ (line : List ℕ). TriesToWrite (g.E.Sink.writing c.args.err.now) (g.E.Sink.writing c.say.new.sink) line)
       (c.as_bytes.ensures ∙ c.in-Ok.ensures) c.say.ensures,
   refl,
 )
