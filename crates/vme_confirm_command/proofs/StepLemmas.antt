@@ -2,8 +2,7 @@
 use Rattle.std.proofs.Common.{◌≡◌, ℕ, ◌+◌, ◌≤◌, ◌<◌, Bool, true, false, List, [], ◌∷◌, ◌++◌, length, take}
 use Rattle.std.proofs.Common.{Option, None, Some, refl, sym, ap, ◌∙◌, arith, append_assoc}
 use Rattle.std.proofs.Common.{length-append}
-use Rattle.std.specs.Prelude.{Ok, Err, slice_get}
-use Rattle.std.proofs.lemmas.Bool.{le-ltb, lt-ltb}
+use Rattle.std.specs.Prelude.{slice_get}
 use Rattle.std.proofs.lemmas.List.{length-take-le, take_all}
 use Rattle.std.proofs.lemmas.Option.{slice_get_within}
 use Rattle.std.proofs.Math.Seq.{take-append-add}
@@ -14,8 +13,6 @@ use Rattle.vme_trace.specs.WellFormed.{are_changes, capture_limit, malformed_ste
 use Rattle.vme_trace.specs.declared.step.Step.{Step}
 use Rattle.vme_trace.proofs.CutBlocks.{levels_at-taken, take-next}
 use Rattle.vme_trace.proofs.ListLaws.{slice_get-append_past}
-use Rattle.vme_bind.specs.Capture.{limited}
-use Rattle.vme_bind.specs.declared.fault.BindFaultKind.TheVariants.{TooManySteps}
 use Rattle.vme_skew.specs.Settled.{settled_until}
 use Rattle.vme_skew.specs.Settling.{Settling}
 use Rattle.vme_skew.proofs.Complete.{settled_until-prefix}
@@ -144,14 +141,3 @@ pub HasDeskewed-from_few : (skew : Option ℕ) (given : Trace) (time : ℕ) (set
     → ComesOut skew settler given time t → HasDeskewed skew given time settler count flag t
 HasDeskewed-from_few skew given time settler count true t e same few comes = absurd (cc)
 HasDeskewed-from_few skew given time settler count false t e same few comes = (same, few, comes)
-
--- ---- the limit of a recording
-
--- a recording within the limit is as it is
-pub limited-fits : (t : Trace) → length t.steps ≤ capture_limit → limited t ≡ Ok t
-limited-fits t few = rw (le-ltb capture_limit (length t.steps) few) refl
-
--- a recording past the limit is refused
-pub limited-long : (t : Trace) → capture_limit < length t.steps
-    → limited t ≡ Err (record { line = 0; kind = TooManySteps })
-limited-long t many = rw (lt-ltb capture_limit (length t.steps) many) refl

@@ -5,8 +5,9 @@ use Rattle.vme_trace.specs.Trace.{Trace}
 use Rattle.vme_cert.specs.Checking.{HasCompared, HasFollowed}
 use Rattle.vme_dump_input.specs.SettledReadings.{settled_whole}
 use Rattle.vme_dump_input.proofs.ReadSteps.{settled_whole-formed}
-use Rattle.vme_confirm_command.proofs.StepLemmas.{limited-fits, limited-long, HasDeskewed-too_many}
-use Rattle.vme_confirm_command.proofs.StepLemmas.{StepsMayFollow-settled_whole, HasDeskewed-counted, length-counted}
+use Rattle.vme_stream.proofs.AnswerLemmas.{limited-few_steps, limited-many_steps}
+use Rattle.vme_confirm_command.proofs.StepLemmas.{HasDeskewed-counted, HasDeskewed-too_many}
+use Rattle.vme_confirm_command.proofs.StepLemmas.{StepsMayFollow-settled_whole, length-counted}
 use Rattle.vme_confirm_command.proofs.step_check.StepCheck.finish.Goals as goal
 
 pub returns-then-not-count_more-clause-finds : goal.returns-then-not-count_more-clause-finds
@@ -17,7 +18,7 @@ returns-then-not-count_more-clause-finds g c whole version skew given from t h c
     let none = c.if-not-count_more.true in
     let many = HasDeskewed-too_many skew given from self.settler self.count self.is_too_long t steps h.comes
     (λ short. omega (arith, counted.many none short, c.len.ensures)) in (
-      limited-long (with_steps given steps) many,
+      limited-many_steps (with_steps given steps) many,
       c.into_source.ensures whole version (record {
         t = t;
         taken = rw counted.left.1 h.taken;
@@ -72,7 +73,7 @@ returns-in-Ok-clause-finds g c whole version skew given from t h compared go =
     ap (with_steps t) c.as_slice.ensures.value ∙ settled in
     let taken : HasFollowed t c.count_more.new.self.checker = rw counted.left.1 h.taken in
     let checker = c.check_all.new.checker in (
-      limited-fits (with_steps given steps) long,
+      limited-few_steps (with_steps given steps) long,
       c.finish-answer.ensures whole version (settled_whole skew (with_steps given steps))
           (subst (λ (u : Trace). HasFollowed u checker) is (c.check_all.ensures.taken t taken))
           (subst (λ (u : Trace). HasCompared g.S.RowSource.gave g.S.RowSource.is_over whole version u checker) is
