@@ -12,12 +12,12 @@ use Rattle.vme_skew.specs.Settled.{settled, settled_or}
 use Rattle.vme_trace.specs.Trace.{Trace}
 use Rattle.vme_trace.specs.WellFormed.{capture_limit}
 use Rattle.vme_stream.specs.Answers.{AnswerGives, binding_read, capture_by, dump_read, or_bad_binding}
-use Rattle.vme_stream.specs.Answers.{or_bad_dump, recording_by}
+use Rattle.vme_stream.specs.Answers.{or_bad_dump, or_too_long, recording_by}
 use Rattle.vme_stream.specs.Refusals.{capture_refusal}
 use Rattle.vme_stream.specs.declared.refusal.Refusal.{Refusal}
 use Rattle.vme_stream.specs.declared.refusal.Refusal.TheVariants.{Memory}
 use Rattle.vme_stream.proofs.AnswerLemmas.{capture_by-or_too_long, capture_read-bound, capture_read-refused}
-use Rattle.vme_stream.proofs.AnswerLemmas.{AnswerGives-then, or_too_long, recording_by-fails, recording_by-text}
+use Rattle.vme_stream.proofs.AnswerLemmas.{AnswerGives-then, recording_by-fails, recording_by-text}
 use Rattle.vme_commands.specs.Judged.{in_blocks, limited_in_blocks}
 use Rattle.vme_commands.specs.Settled.{settled_read, settled_recording}
 use Rattle.vme_commands.proofs.JudgedLemmas.{limited_in_blocks-short}

@@ -22,10 +22,10 @@ use Rattle.vme_skew.proofs.Laws.{IsRecording-settled}
 use Rattle.vme_trace.specs.LineNumbers.{line_count}
 use Rattle.vme_trace.specs.Trace.{Trace, last_instant, time_at}
 use Rattle.vme_trace.specs.WellFormed.{malformed_step}
-use Rattle.vme_stream.specs.Answers.{capture_by, or_bad_binding, or_bad_dump, recording_by}
+use Rattle.vme_stream.specs.Answers.{capture_by, or_bad_binding, or_bad_dump, or_too_long, recording_by}
 use Rattle.vme_stream.specs.declared.refusal.Refusal.{Refusal}
 use Rattle.vme_commands.specs.Judged.{in_blocks}
-use Rattle.vme_stream.proofs.AnswerLemmas.{capture_by-or_too_long, or_too_long}
+use Rattle.vme_stream.proofs.AnswerLemmas.{capture_by-or_too_long}
 use Rattle.vme_annotation.proofs.SameDumpLemmas.{IsDump, bind-ok, IsDump-dump_of}
 use Rattle.vme_annotate.specs.HasTimes.{HasTimes}
 use Rattle.vme_annotate.specs.TimedListings.{recording_to_list}

@@ -31,7 +31,7 @@ use Rattle.vme_stream.specs.declared.refusal.Refusal.{Refusal}
 use Rattle.vme_stream.specs.declared.refusal.Refusal.TheVariants.{TooLong, BadBinding, BadDump, Memory}
 use Rattle.vme_stream.specs.Answers.{AnswerGives, binding_read, bytes_within_limit, dump_read, or_bad_binding}
 use Rattle.vme_stream.specs.Answers.{capture_by, capture_read, judgement_of, or_bad_dump, recorded_by, recording_by}
-use Rattle.vme_stream.specs.Answers.{recording_read, verdict_in_blocks}
+use Rattle.vme_stream.specs.Answers.{or_too_long, recording_read, verdict_in_blocks}
 use Rattle.vme_stream.specs.Inputs.{IsInTime, IsReading, longest_input}
 use Rattle.vme_stream.specs.Refusals.{input_refusal, binding_refusal, dump_refusal, capture_refusal}
 use Rattle.vme_stream.proofs.InputLemmas.{in_time}
@@ -330,10 +330,6 @@ limited-few_steps t few = rw (le-ltb capture_limit (length t.steps) few) refl
 pub limited-many_steps : (t : Trace) → capture_limit < length t.steps
     → limited t ≡ Err (record { line = 0; kind = bind.TooManySteps })
 limited-many_steps t many = rw (lt-ltb capture_limit (length t.steps) many) refl
-
--- a recording, or the refusal if it is too long
-abbrev pub or_too_long : Trace → Result Trace Refusal
-or_too_long t = or_bad_binding (limited t)
 
 -- what is made within the limit is what is made, or the refusal that it is too long
 or_too_long-made : {W : Type 0} (r : Result W BindFault) (made : W → Trace)

@@ -6,7 +6,7 @@ use Rattle.vcd_read.specs.Header.{◌>>=◌}
 use Rattle.vcd_read.specs.Meaning.{dump_of}
 use Rattle.vcd_read.specs.declared.fault.VcdFault.{VcdFault}
 use Rattle.vme_bind.specs.Binding.{BoundLines, binding_of}
-use Rattle.vme_bind.specs.Capture.{capture_of, recording_of}
+use Rattle.vme_bind.specs.Capture.{capture_of, limited, recording_of}
 use Rattle.vme_bind.specs.declared.fault.BindFault.{BindFault}
 use Rattle.vme_trace.specs.Blocks.{block_count}
 use Rattle.vme_trace.specs.Trace.{Trace}
@@ -54,6 +54,10 @@ abbrev pub recording_by : BoundLines → Result Contents Refusal → Result Trac
 recording_by bound dump = do
   contents ← dump
   or_bad_binding (recording_of bound contents)
+
+-- a recording, or the refusal if it is too long
+abbrev pub or_too_long : Trace → Result Trace Refusal
+or_too_long t = or_bad_binding (limited t)
 
 -- the recording that `bound` makes of a dump, or why there is none; one that is too long is refused
 abbrev pub capture_by : BoundLines → Result Contents Refusal → Result Trace Refusal

@@ -5,14 +5,10 @@ use Rattle.std.proofs.Common.{◌∙◌, arith}
 use Rattle.std.specs.Prelude.{Option, Result, Ok, Err, max, min, nat_lt, if◌then◌else◌}
 use Rattle.std.proofs.lemmas.Bool.{le-ltb, lt-ltb}
 use Rattle.std.proofs.lemmas.Grind.{div_ceil_times}
-use Rattle.vcd_read.specs.Contents.{Contents}
 use Rattle.vcd_read.specs.Header.{◌>>=◌}
 use Rattle.vme_bind.specs.Binding.{BoundLines}
-use Rattle.vme_bind.specs.BoundGroups.{bound_groups_in}
-use Rattle.vme_bind.specs.Capture.{capture_of, limited, recording, recording_of}
 use Rattle.vme_account.specs.Accounts.{IsAccountOf}
 use Rattle.vme_account.specs.declared.account.Account.{Account}
-use Rattle.vme_bind.specs.declared.fault.BindFault.{BindFault}
 use Rattle.vme_trace.specs.Trace.{Trace}
 use Rattle.vme_stream.specs.Refusals.{judging_refusal}
 use Rattle.vme_summary.specs.declared.stream_judge.NoVerdict.TheVariants as no_verdict
@@ -22,10 +18,9 @@ use Rattle.vme_trace.specs.declared.verdict.Verdict.{Verdict}
 use Rattle.vme_text_commands.specs.declared.explain.Explained.{Explained}
 use Rattle.vme_stream.specs.declared.refusal.Refusal.{Refusal}
 use Rattle.vme_stream.specs.declared.refusal.Refusal.TheVariants.{Memory, TooManyBlocks}
-use Rattle.vme_stream.specs.Answers.{AnswerGives, binding_read, capture_by, dump_read, or_bad_binding, recording_by}
-use Rattle.vme_stream.specs.Answers.{verdict_in_blocks}
+use Rattle.vme_stream.specs.Answers.{AnswerGives, binding_read, dump_read, or_too_long, verdict_in_blocks}
 use Rattle.vme_text_commands.specs.Explained.{judged_by}
-use Rattle.vme_text_commands.specs.ExplainedDumps.{GivesAccount, or_too_long}
+use Rattle.vme_text_commands.specs.ExplainedDumps.{GivesAccount}
 use Rattle.vme_commands.specs.Settled.{settled_judgement, settled_read}
 use Rattle.vme_skew.specs.Settled.{settled, settled_or}
 use Rattle.vme_stream.proofs.AnswerLemmas.{capture_read-bound, capture_read-refused, AnswerGives-then}
@@ -56,26 +51,6 @@ AnswerGives-binding_refused skew b d r gives =
     (settled_judgement-refused skew b d 16384 r (settled_read-refused skew b d r (capture_read-refused b d r gives)))
 
 -- ---- a recording that is judged as the dump is read
-
--- what is made of the groups that were found is captured if it isn't too long, and else it is refused
-or_bad_binding-limited : {W : Type 0} (r : Result W BindFault) (made : W → Trace)
-    → or_bad_binding (r >>= λ w. limited (made w))
-    ≡ (or_bad_binding (r >>= λ w. Ok (made w)) >>= or_too_long)
-or_bad_binding-limited (Ok w) made = refl
-or_bad_binding-limited (Err fault) made = refl
-
--- the recording that a binding captures of the contents is the one that it makes of them, if that isn't too long
-capture_of-short : (bound : BoundLines) (contents : Contents) → or_bad_binding (capture_of bound contents)
-    ≡ (or_bad_binding (recording_of bound contents) >>= or_too_long)
-unfolding capture_of recording_of
-capture_of-short bound contents = or_bad_binding-limited (bound_groups_in contents.variables bound.assignments)
-    (λ wires. recording bound.slots wires contents.instants (length contents.instants))
-
--- the captured recording is the one that the binding makes, if that isn't too long
-pub capture_by-short : (bound : BoundLines) (dump : Result Contents Refusal) → capture_by bound dump
-    ≡ (recording_by bound dump >>= or_too_long)
-capture_by-short bound (Ok contents) = capture_of-short bound contents
-capture_by-short bound (Err r) = refl
 
 -- a recording that has no more steps than a recording may have
 pub or_too_long-fits : (t : Trace) → length t.steps ≤ capture_limit → or_too_long t ≡ Ok t

@@ -3,15 +3,10 @@ use Rattle.std.specs.Prelude.{◌≡◌, ◌≤◌, length, Result, Ok, Err}
 use Rattle.vcd_read.specs.Header.{◌>>=◌}
 use Rattle.vme_account.specs.Accounts.{IsAccountOf}
 use Rattle.vme_account.specs.declared.account.Account.{Account}
-use Rattle.vme_stream.specs.Answers.{AnswerGives, or_bad_binding, verdict_in_blocks}
+use Rattle.vme_stream.specs.Answers.{AnswerGives, or_too_long, verdict_in_blocks}
 use Rattle.vme_stream.specs.declared.refusal.Refusal.{Refusal}
-use Rattle.vme_bind.specs.Capture.{limited}
 use Rattle.vme_trace.specs.Trace.{Trace}
 use Rattle.vme_trace.specs.declared.verdict.Verdict.{Verdict}
-
--- a recording that isn't too long
-abbrev pub or_too_long : Trace → Result Trace Refusal
-or_too_long t = or_bad_binding (limited t)
 
 -- The account is that of the recording that there is, which fills at most 4,096 blocks of 16,384 steps; or there is
 -- none, for the reason for which there is no verdict, or for want of memory.

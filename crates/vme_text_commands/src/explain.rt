@@ -3,12 +3,13 @@
 ghost use Rattle.std.specs.Prelude.{◌≡◌, ◌++◌, ℕ, List, None, Option, IfOk, IfSome, Result};
 ghost use Rattle.vme_bind.specs.Binding.{binding_of};
 ghost use Rattle.vme_stream.specs.Answers.{AnswerGives, binding_read, capture_by, dump_read, or_bad_binding};
+ghost use Rattle.vme_stream.specs.Answers.{or_too_long};
 ghost use Rattle.vme_stream.specs.Ends.{Ends};
 ghost use Rattle.vme_stream.specs.Texts.{line_of, verdict_text};
 ghost use Rattle.vme_stream.specs.declared.refusal.Refusal.{Refusal as Refused};
 ghost use Rattle.vme_text_commands.specs.Explained.{ExplainsWith, IsExplained, IsExplainedWhole};
 ghost use Rattle.vme_text_commands.specs.Explained.{explained_answer_by, explained_files, judged_by};
-ghost use Rattle.vme_text_commands.specs.ExplainedDumps.{GivesAccount, judged_whole, or_too_long, short_read};
+ghost use Rattle.vme_text_commands.specs.ExplainedDumps.{GivesAccount, judged_whole, short_read};
 ghost use Rattle.vme_text_commands.specs.Refused.{HasRefusalPage};
 ghost use Rattle.vme_commands.specs.Settled.{settled_judgement};
 ghost use Rattle.vme_picture.specs.Pictures.{IsPicture};

@@ -2,11 +2,11 @@ use Rattle.std.proofs.Common.{◌≡◌, Result, Ok, ap, subst, sym}
 use Rattle.std.proofs.lemmas.Result.{err_from_is_err_and}
 use Rattle.std.specs.Prelude.{IfOk, None}
 use Rattle.vcd_read.specs.Header.{◌>>=◌}
-use Rattle.vme_stream.specs.Answers.{AnswerGives}
+use Rattle.vme_stream.specs.Answers.{AnswerGives, or_too_long}
 use Rattle.vme_stream.specs.declared.refusal.Refusal.{Refusal}
 use Rattle.vme_trace.specs.Trace.{Trace}
 use Rattle.vme_trace.specs.WellFormed.{malformed_step}
-use Rattle.vme_text_commands.specs.ExplainedDumps.{GivesAccount, or_too_long}
+use Rattle.vme_text_commands.specs.ExplainedDumps.{GivesAccount}
 use Rattle.vme_text_commands.proofs.ExplainLemmas.{GivesAccount-unread}
 use Rattle.vme_text_commands.proofs.explain.account_of.Goals as goal
 
