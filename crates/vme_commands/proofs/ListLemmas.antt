@@ -19,7 +19,6 @@ use Rattle.vme_listing.specs.declared.row.ListedVerdict.TheVariants as outcome
 use Rattle.vme_listing.specs.declared.row.Row.{Row}
 use Rattle.vme_listing.specs.declared.row.Row.TheVariants.{Verdict}
 use Rattle.vme_stream.specs.declared.refusal.Refusal.{Refusal}
-use Rattle.vme_stream.specs.declared.refusal.Refusal.TheVariants.{Memory}
 use Rattle.vme_stream.specs.Answers.{AnswerGives}
 use Rattle.vme_stream.specs.Ends.{WritesAnswer}
 use Rattle.vme_stream.specs.Texts.{verdict_status}
@@ -30,7 +29,7 @@ use Rattle.vme_listing.specs.Written.{AppendsFront}
 use Rattle.vme_stream.specs.Inputs.{IsReadWhole}
 use Rattle.vme_trace.specs.Streams.{Reading, Writing}
 use Rattle.vme_stream.proofs.OutputLemmas.{AppendsFront-take}
-use Rattle.vme_commands.specs.Listings.{GivesListing, WritesListing, listing_answer_by, listing_answer_of}
+use Rattle.vme_commands.specs.Listings.{WritesListing, listing_answer_by, listing_answer_of}
 use Rattle.vme_stream.specs.ListingStatus.{listing_status, rows_status, status_of_last, verdict_row_status}
 use Rattle.vme_commands.specs.Settled.{settled_recording}
 
@@ -69,20 +68,6 @@ rows_status-stretches t (stretch ∷ stretches) =
 pub listing_status-verdict : (t : Trace) → listing_status (listing_of t) ≡ verdict_status (verdict_by rules_in_force t)
 unfolding listing_by verdict_by
 listing_status-verdict t = rows_status-stretches t (judged_stretches t)
-
--- ---- what is given
-
--- of a refusal `GivesListing` and `AnswerGives` say the same
-pub GivesListing-from_AnswerGives : (r : Refusal) (recording : Result Trace Refusal)
-    → AnswerGives (λ (t : Trace). t) (Err r) recording → GivesListing (Err r) recording
-GivesListing-from_AnswerGives Memory recording given = tt
-GivesListing-from_AnswerGives r recording given = given
-
--- the same, the other way round
-pub AnswerGives-from_GivesListing : (r : Refusal) (recording : Result Trace Refusal) → GivesListing (Err r) recording
-    → AnswerGives (λ (t : Trace). t) (Err r) recording
-AnswerGives-from_GivesListing Memory recording given = tt
-AnswerGives-from_GivesListing r recording given = given
 
 -- ---- what was written
 

@@ -14,7 +14,6 @@ use Rattle.vme_stream.specs.Outputs.{Writes}
 use Rattle.vme_split.specs.Split.{Splits}
 use Rattle.vme_stream.specs.Texts.{verdict_status}
 use Rattle.vme_stream.specs.declared.refusal.Refusal.{Refusal}
-use Rattle.vme_stream.specs.declared.refusal.Refusal.TheVariants.{Memory}
 use Rattle.vme_commands.specs.Judged.{in_blocks}
 use Rattle.vme_commands.specs.Settled.{settled_recording}
 use Rattle.vme_listing.specs.declared.row.Row.{Row}
@@ -29,8 +28,7 @@ recording_in_blocks binding dump block = do
 -- the result is the listing of the given recording, or the same refusal as it, or `Memory`
 abbrev pub GivesListing : Result Listed Refusal → Result Trace Refusal → Type 0
 GivesListing (Ok listing) recording = (t : Trace) × (recording ≡ Ok t) × (listing ≡ listing_of t)
-GivesListing (Err Memory) recording = Unit {0}
-GivesListing (Err refusal) recording = recording ≡ Err refusal
+GivesListing (Err refusal) recording = AnswerGives (λ (t : Trace). t) (Err refusal) recording
 
 -- ---- the answer
 

@@ -1,7 +1,6 @@
 use Rattle.std.proofs.Common.{refl, inl}
 use Rattle.std.specs.Prelude.{Ok, Err}
 use Rattle.std.proofs.KnownBytes.{Appends-nil}
-use Rattle.vme_commands.proofs.ListLemmas.{AnswerGives-from_GivesListing}
 use Rattle.vme_commands.proofs.list.list_by.Goals as goal
 
 pub returns-in-Ok : goal.returns-in-Ok
@@ -18,7 +17,7 @@ returns-in-Err g c =
       Err c.in-Err.refusal,
       binding_reading,
       dump_reading,
-      AnswerGives-from_GivesListing c.in-Err.refusal _ given,
+      given,
       inl (record {
         out_is = (Appends-nil _, refl);
         err_is = c.tell_refusal.ensures.told;

@@ -1,5 +1,4 @@
 use Rattle.std.proofs.lemmas.Result.{err_from_is_err_and}
-use Rattle.vme_commands.proofs.ListLemmas.{GivesListing-from_AnswerGives}
 use Rattle.vme_commands.proofs.SettledLemmas.{settled_recording-refused, settled_recording-taken}
 use Rattle.vme_commands.proofs.list.listing.Goals as goal
 
@@ -13,8 +12,7 @@ returns-in_err-lister g c =
       bytes,
       bound_reading,
       reading,
-      GivesListing-from_AnswerGives refusal _
-          (settled_recording-refused c.args.skew bound bytes c.args.block refusal refused),
+      settled_recording-refused c.args.skew bound bytes c.args.block refusal refused,
     )
 
 pub returns : goal.returns

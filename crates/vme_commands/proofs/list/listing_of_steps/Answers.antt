@@ -1,8 +1,5 @@
 use Rattle.std.proofs.Common.{refl}
-use Rattle.vme_stream.specs.Refusals.{judging_refusal}
-use Rattle.vme_commands.specs.Judged.{limited_in_blocks}
 use Rattle.vme_commands.proofs.JudgedLemmas.{limited_in_blocks-judged, limited_in_blocks-refused}
-use Rattle.vme_commands.proofs.ListLemmas.{GivesListing-from_AnswerGives}
 use Rattle.vme_commands.proofs.list.listing_of_steps.Goals as goal
 
 pub returns-in-Ok : goal.returns-in-Ok
@@ -20,5 +17,4 @@ returns-in-Err c =
     let told = c.in-Err.ensures in
     λ formed.
     rw c.of_judging.ensures
-    (GivesListing-from_AnswerGives (judging_refusal c.in-Err.why) (limited_in_blocks c.args.block c.args.lister)
-    (limited_in_blocks-refused c.args.lister c.args.block _ told.too_many_steps told.too_many_blocks c.in-Err.why refl))
+    (limited_in_blocks-refused c.args.lister c.args.block _ told.too_many_steps told.too_many_blocks c.in-Err.why refl)
