@@ -25,31 +25,11 @@ use Rattle.vme_annotate.specs.Answers.{Annotates, IsAnnotationOf, TellsAnnotatio
 use Rattle.vme_commands.specs.declared.built_in.TheConstants.{BLOCK}
 use Rattle.vme_annotate.specs.Answers.{timed_answer_by, timed_answer_of}
 use Rattle.vme_annotate.specs.Planned.{ArePlanned, planned}
-use Rattle.vme_annotate.specs.Prepared.{GivesPrepared, IsPrepared}
-use Rattle.vme_annotate.specs.TimedListings.{GivesTimedListing, IsTimedListingOf, TimedListingValue, timed_rows_text}
-use Rattle.vme_annotate.specs.TimedListings.{timed_text, times_of}
+use Rattle.vme_annotate.specs.Prepared.{IsPrepared}
+use Rattle.vme_annotate.specs.TimedListings.{IsTimedListingOf, TimedListingValue, timed_rows_text, timed_text}
+use Rattle.vme_annotate.specs.TimedListings.{times_of}
 use Rattle.vme_annotate.specs.declared.annotating.AnnotatedDump.{AnnotatedDump}
 use Rattle.vme_annotate.specs.declared.changes.PlannedChange.{PlannedChange}
-
--- ---- what was refused: of a refusal `GivesTimedListing`, `GivesPrepared` and `AnswerGives` say the same
-
--- a refusal in place of the listing is one in place of the recording
-pub AnswerGives-from_GivesTimedListing : (r : Refusal) (defined : Result Trace Refusal)
-    → GivesTimedListing (Err r) defined → AnswerGives (λ (t : Trace). t) (Err r) defined
-AnswerGives-from_GivesTimedListing Memory defined is = tt
-AnswerGives-from_GivesTimedListing r defined is = is
-
--- a refusal in place of the prepared dump is one in place of the recording
-pub AnswerGives-from_GivesPrepared : (bytes : Option (List ℕ)) (r : Refusal) (defined : Result Trace Refusal)
-    → GivesPrepared bytes (Err r) defined → AnswerGives (λ (t : Trace). t) (Err r) defined
-AnswerGives-from_GivesPrepared bytes Memory defined is = tt
-AnswerGives-from_GivesPrepared bytes r defined is = is
-
--- a refusal in place of the recording is one in place of the prepared dump
-pub GivesPrepared-from_AnswerGives : (bytes : Option (List ℕ)) (r : Refusal) (defined : Result Trace Refusal)
-    → AnswerGives (λ (t : Trace). t) (Err r) defined → GivesPrepared bytes (Err r) defined
-GivesPrepared-from_AnswerGives bytes Memory defined is = tt
-GivesPrepared-from_AnswerGives bytes r defined is = is
 
 -- ---- listings with times
 

@@ -15,7 +15,6 @@ use Rattle.vme_stream.specs.Answers.{AnswerGives, binding_read, capture_by, dump
 use Rattle.vme_stream.specs.Answers.{or_bad_dump, or_too_long, recording_by}
 use Rattle.vme_stream.specs.Refusals.{capture_refusal}
 use Rattle.vme_stream.specs.declared.refusal.Refusal.{Refusal}
-use Rattle.vme_stream.specs.declared.refusal.Refusal.TheVariants.{Memory}
 use Rattle.vme_stream.proofs.AnswerLemmas.{capture_by-or_too_long, capture_read-bound, capture_read-refused}
 use Rattle.vme_stream.proofs.AnswerLemmas.{AnswerGives-then, recording_by-fails, recording_by-text}
 use Rattle.vme_commands.specs.Judged.{in_blocks, limited_in_blocks}
@@ -42,18 +41,11 @@ capture_by-recording_of_text bound bytes t is =
 
 -- ---- refusals
 
--- a refusal in place of the recording is one in place of the listing
-pub GivesTimedListing-from_AnswerGives : (r : Refusal) (read : Result Trace Refusal) → GivesTrace (Err r) read
-    → GivesTimedListing (Err r) read
-GivesTimedListing-from_AnswerGives Memory read is = tt
-GivesTimedListing-from_AnswerGives r read is = is
-
 -- a refusal in place of the recording is one in place of the listing, also after deskewing and cutting into blocks
 pub settled_in_blocks-refused : (skew block : ℕ) (r : Refusal) (read : Result Trace Refusal) → GivesTrace (Err r) read
     → GivesTimedListing (Err r) (settled_in_blocks skew block read)
 settled_in_blocks-refused skew block r read is =
-    GivesTimedListing-from_AnswerGives r (settled_in_blocks skew block read)
-    (AnswerGives-then r (settled_or skew read) (in_blocks block) (settled_or-refused skew read r is))
+    AnswerGives-then r (settled_or skew read) (in_blocks block) (settled_or-refused skew read r is)
 
 -- a fault of the text is the refusal of the listing
 pub recording_to_list-text_refused : (skew block : ℕ) (bound : BoundLines) (bytes : List ℕ) (fault : CaptureFault)
@@ -78,9 +70,7 @@ module _ (skew block : ℕ) (t made : Trace) (within : nat_lt capture_limit (len
   -- a refusal of the deskewed recording is the refusal of the listing
   pub settled_in_blocks-settled_refused : (r : Refusal) → GivesTrace (Err r) (limited_in_blocks block made)
       → GivesTimedListing (Err r) (settled_in_blocks skew block (or_bad_binding (limited t)))
-  settled_in_blocks-settled_refused r given =
-      GivesTimedListing-from_AnswerGives r (settled_in_blocks skew block (or_bad_binding (limited t)))
-      (subst (GivesTrace (Err r)) (sym settled_in_blocks-limited) given)
+  settled_in_blocks-settled_refused r given = subst (GivesTrace (Err r)) (sym settled_in_blocks-limited) given
 
 -- ---- what is read
 
@@ -101,9 +91,8 @@ pub settled_recording-unread_binding : (skew block : ℕ) (binding dump : Option
     → AnswerGives (λ (bound : BoundLines). bound) (Err r) (binding_read binding)
     → GivesTimedListing (Err r) (settled_recording skew binding dump block)
 settled_recording-unread_binding skew block binding dump r is =
-    GivesTimedListing-from_AnswerGives r (settled_recording skew binding dump block)
-    (settled_recording-refused skew binding dump block r
-    (settled_read-refused skew binding dump r (capture_read-refused binding dump r is)))
+    settled_recording-refused skew binding dump block r
+    (settled_read-refused skew binding dump r (capture_read-refused binding dump r is))
 
 -- a refusal of the dump is the refusal of the listing
 pub recording_to_list-unread : (skew block : ℕ) (dump : Option (List ℕ)) (bound : BoundLines) (r : Refusal)

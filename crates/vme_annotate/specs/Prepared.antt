@@ -1,9 +1,8 @@
 -- A dump with all that is inserted into it, before it is written.
 use Rattle.std.specs.Prelude.{◌≡◌, ℕ, List, Option, Some, Result, Ok, Err}
 use Rattle.vcd_read.specs.Meaning.{dump_of}
-use Rattle.vme_stream.specs.Answers.{or_bad_dump}
+use Rattle.vme_stream.specs.Answers.{AnswerGives, or_bad_dump}
 use Rattle.vme_stream.specs.declared.refusal.Refusal.{Refusal}
-use Rattle.vme_stream.specs.declared.refusal.Refusal.TheVariants.{Memory}
 use Rattle.vme_bind.specs.Binding.{BoundLines}
 use Rattle.vme_trace.specs.Trace.{Trace}
 use Rattle.vme_annotate.specs.Added.{IsFreeIn}
@@ -25,8 +24,7 @@ pub record IsPrepared (t : Trace) (d : AnnotatedDump) : Type 0 where
 -- `Memory`
 abbrev pub GivesPrepared : Option (List ℕ) → Result AnnotatedDump Refusal → Result Trace Refusal → Type 0
 GivesPrepared bytes (Ok d) recording = (t : Trace) × (recording ≡ Ok t) × IsPrepared t d × (bytes ≡ Some d.text.items)
-GivesPrepared bytes (Err Memory) recording = Unit {0}
-GivesPrepared bytes (Err refusal) recording = recording ≡ Err refusal
+GivesPrepared bytes (Err refusal) recording = AnswerGives (λ (t : Trace). t) (Err refusal) recording
 
 -- the recording that a binding makes of the text of a dump, deskewed by `skew`
 abbrev pub recording_in : ℕ → BoundLines → List ℕ → Result Trace Refusal

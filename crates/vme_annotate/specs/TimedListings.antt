@@ -9,9 +9,8 @@ use Rattle.vcd_read.specs.Contents.{Contents}
 use Rattle.vcd_read.specs.Header.{◌>>=◌}
 use Rattle.vme_bind.specs.Binding.{BoundLines}
 use Rattle.vme_skew.specs.Settled.{settled_or}
-use Rattle.vme_stream.specs.Answers.{capture_by}
+use Rattle.vme_stream.specs.Answers.{AnswerGives, capture_by}
 use Rattle.vme_stream.specs.declared.refusal.Refusal.{Refusal}
-use Rattle.vme_stream.specs.declared.refusal.Refusal.TheVariants.{Memory}
 use Rattle.vme_commands.specs.Judged.{in_blocks}
 use Rattle.vme_annotate.specs.TimedRows.{timed_line}
 
@@ -34,8 +33,7 @@ pub record IsTimedListingOf (t : Trace) (found : TimedListingValue) : Type 0 whe
 -- the result is the listing and times of the given recording, or the same refusal as it, or `Memory`
 abbrev pub GivesTimedListing : Result TimedListingValue Refusal → Result Trace Refusal → Type 0
 GivesTimedListing (Ok found) recording = (t : Trace) × (recording ≡ Ok t) × IsTimedListingOf t found
-GivesTimedListing (Err Memory) recording = Unit {0}
-GivesTimedListing (Err refusal) recording = recording ≡ Err refusal
+GivesTimedListing (Err refusal) recording = AnswerGives (λ (t : Trace). t) (Err refusal) recording
 
 -- ---- the text
 

@@ -10,7 +10,6 @@ use Rattle.vme_stream.proofs.InputLemmas.{IsReading-unread}
 use Rattle.vme_commands.specs.declared.built_in.TheConstants.{BLOCK}
 use Rattle.vme_annotate.specs.Prepared.{GivesPrepared}
 use Rattle.vme_annotate.specs.TimedListings.{recording_to_list}
-use Rattle.vme_annotate.proofs.EndsLemmas.{AnswerGives-from_GivesTimedListing, GivesPrepared-from_AnswerGives}
 use Rattle.vme_annotate.proofs.ListedLemmas.{settled_recording-bound, settled_recording-unread_binding}
 use Rattle.vme_annotate.proofs.ListedLemmas.{settled_recording-unread_dump}
 use Rattle.vme_annotate.proofs.annotating.annotated_from.Goals as goal
@@ -26,8 +25,7 @@ returns-in_err-bound g c =
       left.0,
       binding_reading,
       left.1,
-      GivesPrepared-from_AnswerGives left.0 refusal _ (AnswerGives-from_GivesTimedListing refusal _
-          (settled_recording-unread_binding c.args.skew BLOCK binding left.0 refusal refused)),
+      settled_recording-unread_binding c.args.skew BLOCK binding left.0 refusal refused,
     )
 
 pub returns-in-Ok : goal.returns-in-Ok
@@ -56,6 +54,5 @@ returns g c =
       bytes,
       binding_reading,
       reading,
-      GivesPrepared-from_AnswerGives bytes _ _ (AnswerGives-from_GivesTimedListing _ _
-          (settled_recording-unread_dump c.args.skew BLOCK binding bytes c.in_ok-bound.bound _ bound_is refused)),
+      settled_recording-unread_dump c.args.skew BLOCK binding bytes c.in_ok-bound.bound _ bound_is refused,
     )

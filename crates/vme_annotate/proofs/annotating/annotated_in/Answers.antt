@@ -3,16 +3,11 @@ use Rattle.std.specs.Prelude.{Err, Some}
 use Rattle.vme_stream.specs.declared.refusal.Refusal.{Refusal}
 use Rattle.vme_commands.specs.declared.built_in.TheConstants.{BLOCK}
 use Rattle.vme_annotate.specs.Prepared.{GivesPrepared, recording_in}
-use Rattle.vme_annotate.proofs.EndsLemmas.{AnswerGives-from_GivesTimedListing, GivesPrepared-from_AnswerGives}
 use Rattle.vme_annotate.proofs.RecordedLemmas.{defines, has_times, IsRecorded-listed}
 use Rattle.vme_annotate.proofs.annotating.annotated_in.Goals as goal
 
 pub returns-in-Err : goal.returns-in-Err
-returns-in-Err c =
-    GivesPrepared-from_AnswerGives (Some c.args.text.items) c.in-Err.refusal
-    (recording_in c.args.skew c.args.bound.now c.args.text.items)
-    (AnswerGives-from_GivesTimedListing c.in-Err.refusal (recording_in c.args.skew c.args.bound.now c.args.text.items)
-    (rw c.deref.ensures.value at c.in-Err.ensures))
+returns-in-Err c = rw c.deref.ensures.value at c.in-Err.ensures
 
 pub added_to-requires : goal.added_to-requires
 added_to-requires c =

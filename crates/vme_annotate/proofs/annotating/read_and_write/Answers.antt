@@ -1,7 +1,7 @@
 use Rattle.std.proofs.Common.{[], inl, refl}
 use Rattle.std.specs.Prelude.{Err, Ok}
 use Rattle.std.proofs.KnownBytes.{Appends-nil}
-use Rattle.vme_annotate.proofs.EndsLemmas.{AnswerGives-from_GivesPrepared, IsAnnotationOf-annotated}
+use Rattle.vme_annotate.proofs.EndsLemmas.{IsAnnotationOf-annotated}
 use Rattle.vme_annotate.proofs.EndsLemmas.{IsAnnotationOf-refused}
 use Rattle.vme_annotate.proofs.annotating.read_and_write.Goals as goal
 
@@ -30,7 +30,7 @@ returns-in-Err g c =
       [],
       binding_reading,
       dump_reading,
-      AnswerGives-from_GivesPrepared dump c.in-Err.refusal _ given,
+      given,
       IsAnnotationOf-refused dump c.in-Err.refusal [],
       inl (record {
         out_is = (Appends-nil _, refl);

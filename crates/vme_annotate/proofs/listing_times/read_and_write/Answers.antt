@@ -1,7 +1,6 @@
 use Rattle.std.proofs.Common.{inl, refl}
 use Rattle.std.specs.Prelude.{Err, Ok}
 use Rattle.std.proofs.KnownBytes.{Appends-nil}
-use Rattle.vme_annotate.proofs.EndsLemmas.{AnswerGives-from_GivesTimedListing}
 use Rattle.vme_annotate.proofs.listing_times.read_and_write.Goals as goal
 
 pub returns-in-Ok : goal.returns-in-Ok
@@ -18,7 +17,7 @@ returns-in-Err g c =
       Err c.in-Err.refusal,
       binding_reading,
       dump_reading,
-      AnswerGives-from_GivesTimedListing c.in-Err.refusal _ given,
+      given,
       inl (record {
         out_is = (Appends-nil _, refl);
         err_is = c.tell_refusal.ensures.told;
