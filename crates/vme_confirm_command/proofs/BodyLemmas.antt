@@ -35,14 +35,14 @@ pub IsChecked-piece : {Source : Type 0} (skew : Option ℕ) (r next : StepReadin
     (time : ℕ) (t : Trace) (check : StepCheck Source) → IsSound r
     → ((rest : List ℕ) → whole_reading r (piece ++ rest) ≡ whole_reading next rest)
     → next.given ≡ with_steps r.given steps → time ≡ (whole_reading next []).time
-    → HasCheckedSteps skew (with_steps r.given steps) time t check.settler check.checker check.count check.is_too_long
+    → HasCheckedSteps skew (with_steps r.given steps) time t check.settler check.checker check.count
     → IsChecked skew next t check
 IsChecked-piece skew r next steps piece time t check sound taken given now stepped = record {
   sound = IsSound-next r next steps piece sound taken given;
   stepped = subst (λ (u : Trace). HasCheckedSteps skew u (whole_reading next []).time t check.settler check.checker
-      check.count check.is_too_long) (sym given)
-      (subst (λ n. HasCheckedSteps skew (with_steps r.given steps) n t check.settler check.checker check.count
-      check.is_too_long) now stepped);
+      check.count) (sym given)
+      (subst (λ n. HasCheckedSteps skew (with_steps r.given steps) n t check.settler check.checker check.count) now
+      stepped);
 }
 
 -- ---- the end

@@ -1,7 +1,6 @@
--- The steps of a piece are compared one by one, and counted up to the limit of a recording.
-use Rattle.std.proofs.Common.{◌≡◌, ℕ, ◌+◌, ◌≤◌, ◌<◌, Bool, true, false, List, [], ◌∷◌, ◌++◌, length, take}
-use Rattle.std.proofs.Common.{Option, None, Some, refl, sym, ap, ◌∙◌, arith, append_assoc}
-use Rattle.std.proofs.Common.{length-append}
+-- The steps of a piece are compared one by one, as far as they are within the limit of a recording.
+use Rattle.std.proofs.Common.{◌≡◌, ℕ, ◌+◌, ◌≤◌, List, [], ◌∷◌, ◌++◌, length, take, Option, None, Some, sym, ap, ◌∙◌}
+use Rattle.std.proofs.Common.{arith, append_assoc, length-append}
 use Rattle.std.specs.Prelude.{slice_get}
 use Rattle.std.proofs.lemmas.List.{length-take-le, take_all}
 use Rattle.std.proofs.lemmas.Option.{slice_get_within}
@@ -14,14 +13,12 @@ use Rattle.vme_trace.specs.declared.step.Step.{Step}
 use Rattle.vme_trace.proofs.CutBlocks.{levels_at-taken, take-next}
 use Rattle.vme_trace.proofs.ListLaws.{slice_get-append_past}
 use Rattle.vme_skew.specs.Settled.{settled_until}
-use Rattle.vme_skew.specs.Settling.{Settling}
 use Rattle.vme_skew.proofs.Complete.{settled_until-prefix}
 use Rattle.vme_skew.proofs.Laws.{length-settled}
 use Rattle.vme_cert.specs.Checking.{MayGoOn, last_levels}
 use Rattle.vme_cert.proofs.Checking.{are_changes-step}
 use Rattle.vme_dump_input.specs.SettledReadings.{settled_so_far, settled_whole}
-use Rattle.vme_dump_input.specs.SettledSteps.{ComesOut}
-use Rattle.vme_confirm_command.specs.StepChecks.{HasDeskewed, StepsMayFollow}
+use Rattle.vme_confirm_command.specs.StepChecks.{StepsMayFollow}
 
 -- ---- one more step
 
@@ -102,42 +99,3 @@ module _ (skew : Option ℕ) (t given : Trace) (made : List Step) (few : length 
       length-append t.steps made,
     );
   }
-
--- if the steps are too many, or become so with `steps`, they are too many with these
-pub HasDeskewed-too_many : (skew : Option ℕ) (given : Trace) (time : ℕ) (settler : Option Settling) (count : ℕ)
-    (flag : Bool)
-    (t : Trace) (steps : List Step) → HasDeskewed skew given time settler count flag t
-    → (flag ≡ false → capture_limit < count + length steps)
-    → capture_limit < length (given.steps ++ steps)
-HasDeskewed-too_many skew given time settler count true t steps comes many =
-    omega (arith, comes, length-append given.steps steps)
-HasDeskewed-too_many skew given time settler count false t steps comes many =
-    omega (arith, comes.0, many refl, length-append given.steps steps)
-
--- steps that aren't too many are counted, and `t` came out of deskewing them
-pub HasDeskewed-counted : (skew : Option ℕ) (given : Trace) (time : ℕ) (settler : Option Settling) (count : ℕ)
-    (flag : Bool)
-    (t : Trace) → HasDeskewed skew given time settler count flag t → flag ≡ false
-    → (count ≡ length given.steps) × (count ≤ capture_limit) × ComesOut skew settler given time t
-HasDeskewed-counted skew given time settler count true t comes e = absurd (cc)
-HasDeskewed-counted skew given time settler count false t comes e = comes
-
--- if the steps are counted, and `steps` with them, at most as many as the limit, all of them are within it
-pub length-counted : (given : Trace) (steps : List Step) (count next : ℕ) → count ≡ length given.steps
-    → next ≡ count + length steps → next ≤ capture_limit → length (given.steps ++ steps) ≤ capture_limit
-length-counted given steps count next same more few = omega (arith, same, more, few, length-append given.steps steps)
-
--- where the steps are too many, nothing is asked of `t`
-pub HasDeskewed-from_many : (skew : Option ℕ) (given : Trace) (time : ℕ) (settler : Option Settling) (count : ℕ)
-    (flag : Bool)
-    (t : Trace) → flag ≡ true → capture_limit < length given.steps → HasDeskewed skew given time settler count flag t
-HasDeskewed-from_many skew given time settler count true t e many = many
-HasDeskewed-from_many skew given time settler count false t e many = absurd (cc)
-
--- steps that are counted, and of which `t` came out of deskewing them, aren't too many
-pub HasDeskewed-from_few : (skew : Option ℕ) (given : Trace) (time : ℕ) (settler : Option Settling) (count : ℕ)
-    (flag : Bool)
-    (t : Trace) → flag ≡ false → count ≡ length given.steps → count ≤ capture_limit
-    → ComesOut skew settler given time t → HasDeskewed skew given time settler count flag t
-HasDeskewed-from_few skew given time settler count true t e same few comes = absurd (cc)
-HasDeskewed-from_few skew given time settler count false t e same few comes = (same, few, comes)

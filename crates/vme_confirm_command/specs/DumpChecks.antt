@@ -22,7 +22,6 @@ pub record IsChecked {Source : Type 0} (skew : Option ℕ) (r : StepReading) (t 
     0 where
   pub sound : IsSound r
   pub stepped : HasCheckedSteps skew r.given (whole_reading r []).time t check.settler check.checker check.count
-      check.is_too_long
 
 module _ {Whole Source : Type 0} (gave : Whole → Source → List Row → Type 0) (is_over : Source → Type 0) (whole : Whole)
     (version : Version) (binding : BoundLines) (skew : ℕ) where

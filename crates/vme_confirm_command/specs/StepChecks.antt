@@ -1,5 +1,5 @@
 -- How far the steps of a dump are compared with rows.
-use Rattle.std.specs.Prelude.{◌≡◌, ℕ, ◌+◌, ◌≤◌, ◌<◌, Bool, true, false, List, length, Option, None, Result, Ok, Err}
+use Rattle.std.specs.Prelude.{◌≡◌, ℕ, ◌+◌, ◌≤◌, List, length, Option, None, Result, Ok, Err}
 use Rattle.vme_trace.specs.Followed.{with_steps}
 use Rattle.vme_trace.specs.Trace.{Trace}
 use Rattle.vme_trace.specs.WellFormed.{capture_limit, malformed_step}
@@ -14,22 +14,19 @@ use Rattle.vme_cert.specs.declared.checker.Checker.{Checker}
 use Rattle.vme_cert.specs.declared.compare.Answer.{Answer}
 use Rattle.vme_dump_input.specs.SettledReadings.{settled_whole}
 use Rattle.vme_dump_input.specs.SettledSteps.{ComesOut}
-
--- the steps of `given` are counted, and `t` came out of deskewing them; or they are too many
-abbrev pub HasDeskewed : Option ℕ → Trace → ℕ → Option Settling → ℕ → Bool → Trace → Type 0
-HasDeskewed skew given time settler count true t = capture_limit < length given.steps
-HasDeskewed skew given time settler count false t =
-    (count ≡ length given.steps) × (count ≤ capture_limit) × ComesOut skew settler given time t
+use Rattle.vme_dump_input.specs.StepCounts.{IsStepCount}
 
 -- `steps` may follow those of `recorded`: they leave it well-formed and within the limit
 pub record StepsMayFollow (recorded : Trace) (steps : List Step) : Type 0 where
   pub formed : malformed_step (with_steps recorded steps) ≡ None
   pub within : length recorded.steps + length steps ≤ capture_limit
 
--- the dump gave all steps of `given` up to `time`, and the checker took `t`, which came out of deskewing them
+-- the dump gave all steps of `given` up to `time`, which are counted, and the checker took `t`, which came out of
+-- deskewing them, unless they are too many
 pub record HasCheckedSteps {Source : Type 0} (skew : Option ℕ) (given : Trace) (time : ℕ) (t : Trace)
-    (settler : Option Settling) (checker : Checker Source) (count : ℕ) (is_too_long : Bool) : Type 0 where
-  pub comes : HasDeskewed skew given time settler count is_too_long t
+    (settler : Option Settling) (checker : Checker Source) (count : ℕ) : Type 0 where
+  pub counted : IsStepCount count given.steps
+  pub comes : length given.steps ≤ capture_limit → ComesOut skew settler given time t
   pub taken : HasFollowed t checker
 
 module _ {Whole Source : Type 0} (gave : Whole → Source → List Row → Type 0) (is_over : Source → Type 0) (whole : Whole)

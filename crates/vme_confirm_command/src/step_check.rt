@@ -1,11 +1,9 @@
 //! Compares the steps of a dump, deskewed if there is a skew, with rows.
 
-ghost use Rattle.std.specs.Prelude.{◌≡◌, ◌+◌, ◌-◌, ◌≤◌, ◌<◌, ℕ, List, [], true, false, length, Option};
-ghost use Rattle.std.specs.Prelude.{IfOk, OnOk};
+ghost use Rattle.std.specs.Prelude.{◌≡◌, ℕ, List, [], length, Option, IfOk, OnOk};
 ghost use Rattle.vme_trace.specs.Followed.{with_steps};
 ghost use Rattle.vme_trace.specs.LineNumbers.{line_count};
 ghost use Rattle.vme_trace.specs.Trace.{Trace};
-ghost use Rattle.vme_trace.specs.WellFormed.{capture_limit};
 ghost use Rattle.vme_listing.specs.declared.row.Row.{Row};
 ghost use Rattle.vme_listing.specs.declared.row.Version.{Version};
 ghost use Rattle.vme_cert.specs.Checking.{HasCompared, HasFollowed, at_opening};
@@ -29,9 +27,8 @@ const MOST_STEPS: usize = 268_435_456;
 pub(crate) struct StepCheck<S: RowSource> {
     settler: Option<StepSettler>,
     checker: Checker<S>,
-    /// How many steps came, and whether they are too many. If they are, nothing more is compared.
+    /// How many steps came. Once they are too many, nothing more is compared.
     count: usize,
-    is_too_long: bool,
 }
 
 /// Gives steps to a checker.
@@ -52,7 +49,7 @@ impl<S: RowSource> StepCheck<S> {
     /// Before the first step.
     pub fn new(alloc: Global, opening: &Lines, skew: u64, version: Version, rows: S) -> StepCheck<S>
         ensures stepped { (time : ℕ) → HasCheckedSteps (skew_of skew) (at_opening opening.now) time
-            (at_opening opening.now) result.settler result.checker result.count result.is_too_long }
+            (at_opening opening.now) result.settler result.checker result.count }
         ensures compared { (whole : S.Whole) → S.gave whole rows []
             → HasCompared S.gave S.is_over whole version (at_opening opening.now) result.checker }
         ensures whole { length opening.now.levels ≡ line_count }
@@ -61,38 +58,20 @@ impl<S: RowSource> StepCheck<S> {
             settler: settler_for(alloc, opening, skew),
             checker: Checker::new(opening, version, rows),
             count: 0,
-            is_too_long: false,
         }
-    }
-
-    /// Counts the `steps` steps that follow. Returns false if there are too many.
-    fn count_more(&mut self, steps: usize) -> bool
-        ensures few { result ≡ true → (self.new.count ≡ self.old.count + steps) × (self.new.is_too_long ≡ false)
-            × (self.old.is_too_long ≡ false) }
-        ensures within { result ≡ true → self.old.count ≤ capture_limit → self.new.count ≤ capture_limit }
-        ensures many { result ≡ false → self.old.is_too_long ≡ false → capture_limit < self.old.count + steps }
-        ensures long { result ≡ false → self.new.is_too_long ≡ true }
-        ensures left { (self.new.settler ≡ self.old.settler) × (self.new.checker ≡ self.old.checker) }
-    {
-        if self.is_too_long || self.count > MOST_STEPS || steps > MOST_STEPS - self.count {
-            self.is_too_long = true;
-            return false;
-        }
-        self.count += steps;
-        true
     }
 
     /// Takes the steps that follow, once the dump has come to `time`. It fails if memory runs out, and then nothing is
     /// said of the steps that were compared.
     pub fn take(&mut self, alloc: Global, steps: Vec<Step>, time: u64) -> Result<(), AllocError>
         requires { (skew : Option ℕ) × (given : Trace) × (from : ℕ) × (t : Trace)
-            × HasCheckedSteps skew given from t self.old.settler self.old.checker self.old.count self.old.is_too_long
+            × HasCheckedSteps skew given from t self.old.settler self.old.checker self.old.count
             × GoOnTo given from steps.items time }
         ensures stepped { (skew : Option ℕ) (given : Trace) (from : ℕ) (t : Trace)
-            → HasCheckedSteps skew given from t self.old.settler self.old.checker self.old.count self.old.is_too_long
+            → HasCheckedSteps skew given from t self.old.settler self.old.checker self.old.count
             → GoOnTo given from steps.items time
             → OnOk result ((later : Trace) × HasCheckedSteps skew (with_steps given steps.items) time later
-            self.new.settler self.new.checker self.new.count self.new.is_too_long
+            self.new.settler self.new.checker self.new.count
             × ((whole : S.Whole) (version : Version)
             → HasCompared S.gave S.is_over whole version t self.old.checker
             → HasCompared S.gave S.is_over whole version later self.new.checker)) }
@@ -100,7 +79,9 @@ impl<S: RowSource> StepCheck<S> {
             → IsComparing S.gave S.is_over whole version self.old.checker
             → IsComparing S.gave S.is_over whole version self.new.checker }
     {
-        if !self.count_more(steps.len()) {
+        let count = self.count.saturating_add(steps.len());
+        self.count = count;
+        if count > MOST_STEPS {
             return Ok(());
         }
         let settled = settled_steps(alloc, &mut self.settler, steps, time)?;
@@ -116,10 +97,10 @@ impl<S: RowSource> StepCheck<S> {
         steps: Vec<Step>,
     ) -> (Result<Result<Answer, BindFault>, AllocError>, S)
         requires { (skew : Option ℕ) × (given : Trace) × (from : ℕ) × (t : Trace)
-            × HasCheckedSteps skew given from t self.settler self.checker self.count self.is_too_long
+            × HasCheckedSteps skew given from t self.settler self.checker self.count
             × GoOnFrom given from steps.items }
         ensures finds { (whole : S.Whole) (version : Version) (skew : Option ℕ) (given : Trace) (from : ℕ) (t : Trace)
-            → HasCheckedSteps skew given from t self.settler self.checker self.count self.is_too_long
+            → HasCheckedSteps skew given from t self.settler self.checker self.count
             → HasCompared S.gave S.is_over whole version t self.checker → GoOnFrom given from steps.items
             → IfOk result.0 (λ found. Finds S.gave S.is_over whole version skew (with_steps given steps.items) found
             result.1) }
@@ -127,7 +108,8 @@ impl<S: RowSource> StepCheck<S> {
             → IsComparing S.gave S.is_over whole version self.checker → (rows : List Row) × S.gave whole result.1 rows }
     {
         let mut check = self;
-        if !check.count_more(steps.len()) {
+        let total = check.count.saturating_add(steps.len());
+        if total > MOST_STEPS {
             let fault = BindFault {
                 line: 0,
                 kind: BindFaultKind::TooManySteps,
@@ -141,7 +123,6 @@ impl<S: RowSource> StepCheck<S> {
                     settler: _,
                     checker,
                     count: _,
-                    is_too_long: _,
                 } = check;
                 let (answer, rows) = checker.finish();
                 (Ok(Ok(answer)), rows)
@@ -159,7 +140,6 @@ impl<S: RowSource> StepCheck<S> {
             settler: _,
             checker,
             count: _,
-            is_too_long: _,
         } = self;
         checker.into_source()
     }

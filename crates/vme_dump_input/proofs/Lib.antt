@@ -6,3 +6,4 @@ pub mod BodyLemmas
 pub mod SettlingLemmas
 pub mod FirstSteps
 pub mod ReadSteps
+pub mod StepCounts

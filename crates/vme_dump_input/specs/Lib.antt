@@ -3,3 +3,4 @@ pub mod DumpBeginnings
 pub mod BodyPieces
 pub mod SettledReadings
 pub mod SettledSteps
+pub mod StepCounts

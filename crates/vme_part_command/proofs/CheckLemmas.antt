@@ -1,50 +1,22 @@
 -- The steps of one file are counted and judged as they are read: what is pending, and what holds when all have been
 -- judged.
-use Rattle.std.proofs.Common.{◌≡◌, ℕ, ◌+◌, ◌*◌, ◌≤◌, ◌<◌, Bool, true, false, List, ◌++◌, length, Option, refl, arith}
-use Rattle.std.proofs.Common.{length-append, append_assoc, ap, sym, subst, ◌∙◌, take, drop, take-append-drop}
-use Rattle.std.specs.Global.{Vec}
+use Rattle.std.proofs.Common.{◌≡◌, ℕ, ◌+◌, ◌-◌, ◌*◌, ◌^◌, ◌≤◌, Bool, List, ◌++◌, length, Option, arith, length-append}
+use Rattle.std.proofs.Common.{append_assoc, ap, sym, subst, ◌∙◌, take, drop, take-append-drop}
 use Rattle.vme_trace.specs.Trace.{Trace}
 use Rattle.vme_trace.specs.Followed.{with_steps}
 use Rattle.vme_trace.specs.WellFormed.{capture_limit, malformed_step}
 use Rattle.vme_trace.specs.declared.step.Step.{Step}
-use Rattle.std.specs.Prelude.{None}
+use Rattle.std.specs.Prelude.{None, min}
 use Rattle.vme_parts.specs.NodeCounts.{tables_for}
 use Rattle.vme_file_part.specs.Growing.{AreTooManyNodes, FileHasNodesAtMost, FileMayGoOn, IsFileSoFar}
 use Rattle.vme_file_part.specs.declared.file_so_far.FileSoFar.{FileSoFar}
 use Rattle.vme_summary.proofs.Sound.{SoundParts-of_well_formed}
-use Rattle.vme_part_command.specs.FileChecks.{FileComesTo, HasFewNodes, HasTakenSteps, IsPending, MayBeJudged}
+use Rattle.vme_dump_input.specs.StepCounts.{IsStepCount}
+use Rattle.vme_dump_input.proofs.StepCounts.{IsStepCount-append}
+use Rattle.vme_part_command.specs.FileChecks.{HasFewNodes, HasTakenSteps, IsPending, MayBeJudged}
 use Rattle.vme_part_command.specs.declared.file_check.FileCheck.{FileCheck}
 
 module _ (number : ℕ) (listing : Bool) (start : Option ℕ) (file : FileSoFar) (pending : List Step) where
-  -- if t has too many steps, or the count with `steps` is over the limit, t with `steps` has too many
-  pub too_many-with_steps : (t : Trace) (count : ℕ) (flag : Bool) (steps : List Step)
-      → FileComesTo number listing start file pending count flag t
-      → (flag ≡ false → capture_limit < count + length steps) → capture_limit < length (t.steps ++ steps)
-  too_many-with_steps t count true steps comes many = omega (arith, comes, length-append t.steps steps)
-  too_many-with_steps t count false steps comes many = omega (arith, comes.0, many refl, length-append t.steps steps)
-
-  -- if t doesn't have too many steps, they are counted, at most as many as the limit, and some are pending
-  FileComesTo-few : (t : Trace) (count : ℕ) (flag : Bool)
-      → FileComesTo number listing start file pending count flag t
-      → flag ≡ false
-      → (count ≡ length t.steps) × (count ≤ capture_limit) × IsPending number listing start file pending t
-  FileComesTo-few t count true comes e = absurd (cc)
-  FileComesTo-few t count false comes e = comes
-
-  -- `FileComesTo` holds, with the flag true, of a recording with too many steps
-  pub FileComesTo-of_many : (t : Trace) (count : ℕ) (flag : Bool) → flag ≡ true → capture_limit < length t.steps
-      → FileComesTo number listing start file pending count flag t
-  FileComesTo-of_many t count true e many = many
-  FileComesTo-of_many t count false e many = absurd (cc)
-
-  -- `FileComesTo` holds, with the flag false, of a recording whose steps are counted, at most as many as the limit, and
-  -- of which all but the pending ones are judged
-  pub FileComesTo-of_few : (t : Trace) (count : ℕ) (flag : Bool) → flag ≡ false → count ≡ length t.steps
-      → count ≤ capture_limit → IsPending number listing start file pending t
-      → FileComesTo number listing start file pending count flag t
-  FileComesTo-of_few t count true e same few found = absurd (cc)
-  FileComesTo-of_few t count false e same few found = (same, few, found)
-
   module _ (t : Trace) (p : IsPending number listing start file pending t) where
     -- `IsPending` holds with `steps` added to the pending steps
     pub IsPending-append : (steps : List Step)
@@ -131,35 +103,24 @@ pub IsFileSoFar-all : (number : ℕ) (listing : Bool) (start : Option ℕ) (file
 IsFileSoFar-all number listing start file next pending t p so_far =
     subst (IsFileSoFar number listing start next) p.all so_far
 
--- counting steps doesn't change which are judged
-IsPending-same : (number : ℕ) (listing : Bool) (start : Option ℕ) (file next : FileSoFar) (p q : Vec Step)
-    (t : Trace) → next ≡ file → q ≡ p → IsPending number listing start file p.items t
-    → IsPending number listing start next q.items t
-IsPending-same number listing start file next p q t is left h =
-    subst (λ (f : FileSoFar). IsPending number listing start f q.items t) (sym is)
-    (subst (λ (v : Vec Step). IsPending number listing start file v.items t) (sym left) h)
-
 -- `steps` are counted with those of t, of which the pending ones aren't judged, and aren't too many
 pub record IsCounted (number : ℕ) (listing : Bool) (start : Option ℕ) (check : FileCheck) (t : Trace)
-    (steps : List Step) : Type 0 where
+    (steps : List Step) (total : ℕ) : Type 0 where
+  pub count : IsStepCount total (t.steps ++ steps)
   pub pending : IsPending number listing start check.file check.pending.items t
-  pub count : check.count ≡ length (t.steps ++ steps)
   pub may : MayBeJudged (with_steps t steps)
 
--- `steps` are counted where they were added to the count of a check that was given the steps of t
-pub IsCounted-few : (number : ℕ) (listing : Bool) (start : Option ℕ) (old new : FileCheck) (t : Trace)
-    (steps : List Step) (more : ℕ)
-    → HasTakenSteps number listing start old t → malformed_step (with_steps t steps) ≡ None
-    → (new.count ≡ old.count + more) × (new.is_too_long ≡ false) × (old.is_too_long ≡ false)
-    → (old.count ≤ capture_limit → new.count ≤ capture_limit)
-    → (new.file ≡ old.file) × (new.pending ≡ old.pending) → more ≡ length steps
-    → IsCounted number listing start new t steps
-IsCounted-few number listing start old new t steps more h formed few within left all =
-    let (same, fits, was) = FileComesTo-few number listing start old.file old.pending.items t old.count old.is_too_long
-    h few.2 in
-    let sum : new.count ≡ length (t.steps ++ steps) = omega (arith, few.0, all, same, length-append t.steps steps) in
+-- `steps` are counted where they are added to the count of a check that was given the steps of t
+pub IsCounted-few : (number : ℕ) (listing : Bool) (start : Option ℕ) (check : FileCheck) (t : Trace)
+    (steps : List Step) (more total : ℕ)
+    → HasTakenSteps number listing start check t → malformed_step (with_steps t steps) ≡ None → more ≡ length steps
+    → total ≡ min (check.count + more) (2 ^ 64 - 1) → total ≤ capture_limit
+    → IsCounted number listing start check t steps total
+IsCounted-few number listing start check t steps more total h formed all sum few =
+    let count = IsStepCount-append t.steps steps check.count more total h.0 all sum in
+    let short : length (t.steps ++ steps) ≤ capture_limit = omega (arith, count, few) in
     record {
-      pending = IsPending-same number listing start old.file new.file old.pending new.pending t left.0 left.1 was;
-      count = sum;
-      may = record { formed = formed; few = omega (arith, sum, within fits) };
+      count = count;
+      pending = h.1 (omega (arith, short, length-append t.steps steps));
+      may = record { formed = formed; few = short };
     }

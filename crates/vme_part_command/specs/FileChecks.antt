@@ -1,5 +1,5 @@
 -- How far the steps of a dump that is a file are judged.
-use Rattle.std.specs.Prelude.{◌≡◌, ℕ, ◌*◌, ◌≤◌, ◌<◌, Bool, true, false, List, length, Option, None, Result, Ok, Err}
+use Rattle.std.specs.Prelude.{◌≡◌, ℕ, ◌*◌, ◌≤◌, Bool, List, length, Option, None, Result, Ok, Err}
 use Rattle.vme_trace.specs.Followed.{with_steps}
 use Rattle.vme_trace.specs.Trace.{Trace}
 use Rattle.vme_trace.specs.WellFormed.{capture_limit, malformed_step}
@@ -16,6 +16,7 @@ use Rattle.vme_file_part.specs.FileOf.{file_of}
 use Rattle.vme_file_part.specs.declared.file_so_far.FileSoFar.{FileSoFar}
 use Rattle.vme_step_reader.specs.StepReading.{StepReading}
 use Rattle.vme_dump_input.specs.DumpBeginnings.{IsSound}
+use Rattle.vme_dump_input.specs.StepCounts.{IsStepCount}
 use Rattle.vme_part_command.specs.declared.file_check.FileCheck.{FileCheck}
 use Rattle.vme_part_command.specs.declared.no_part.NoPart.{NoPart}
 use Rattle.vme_part_command.specs.declared.no_part.NoPart.TheVariants as none
@@ -38,16 +39,12 @@ pub record MayBeJudged (t : Trace) : Type 0 where
   pub formed : malformed_step t ≡ None
   pub few : length t.steps ≤ capture_limit
 
--- the steps of t are counted, and all but `pending` are judged; or (`true`) they are too many
-abbrev pub FileComesTo : ℕ → Bool → Option ℕ → FileSoFar → List Step → ℕ → Bool → Trace → Type 0
-FileComesTo number listing first_time file pending count true t = capture_limit < length t.steps
-FileComesTo number listing first_time file pending count false t =
-    (count ≡ length t.steps) × (count ≤ capture_limit) × IsPending number listing first_time file pending t
-
--- `check` was given all steps of t
+-- `check` was given all steps of t, which are counted, and all but the pending ones are judged, unless they are too
+-- many
 abbrev pub HasTakenSteps : ℕ → Bool → Option ℕ → FileCheck → Trace → Type 0
 HasTakenSteps number listing first_time check t =
-    FileComesTo number listing first_time check.file check.pending.items check.count check.is_too_long t
+    IsStepCount check.count t.steps
+    × (length t.steps ≤ capture_limit → IsPending number listing first_time check.file check.pending.items t)
 
 -- `check` was given all steps that the reader r gave
 pub record IsFileJudged (number : ℕ) (listing : Bool) (first_time : Option ℕ) (r : StepReading) (check : FileCheck)

@@ -1,11 +1,11 @@
 //! The steps of a dump that is a file of a recording, judged as they are read.
 
-ghost use Rattle.std.specs.Prelude.{◌≡◌, ◌+◌, ◌≤◌, ◌<◌, ℕ, Bool, [], false, true, IfOk, None, Ok, Option, length};
+ghost use Rattle.std.specs.Prelude.{◌≡◌, ℕ, Bool, [], IfOk, None, Ok, Option, length};
 ghost use Rattle.vme_trace.specs.LineNumbers.{line_count};
 ghost use Rattle.vme_bind.specs.Capture.{limited};
 ghost use Rattle.vme_trace.specs.Followed.{with_steps};
 ghost use Rattle.vme_trace.specs.Trace.{Trace};
-ghost use Rattle.vme_trace.specs.WellFormed.{capture_limit, malformed_step};
+ghost use Rattle.vme_trace.specs.WellFormed.{malformed_step};
 ghost use Rattle.vme_trace.specs.declared.step.Step.{Step};
 ghost use Rattle.vme_file_part.specs.Growing.{IsFileSoFar, FileMayGoOn};
 ghost use Rattle.vme_part_command.specs.FileChecks.{FindsOfSteps, HasFewNodes, HasTakenSteps, IsPending, MayBeJudged};
@@ -33,9 +33,8 @@ pub(crate) struct FileCheck {
     file: FileSoFar,
     /// The steps after those that are judged.
     pending: Vec<Step>,
-    /// How many steps were given, and whether they are too many. Then no more steps are judged.
+    /// How many steps were given. Once they are too many, no more steps are judged.
     count: usize,
-    is_too_long: bool,
 }
 
 /// Judges the steps that follow.
@@ -135,25 +134,7 @@ impl FileCheck {
             file: FileSoFar::new(number, listing, first_time, opening),
             pending: Vec::new(alloc),
             count: 0,
-            is_too_long: false,
         }
-    }
-
-    /// Counts `steps` more steps. The answer is whether there aren't too many.
-    fn counts(&mut self, steps: usize) -> bool
-        ensures few { result ≡ true → (self.new.count ≡ self.old.count + steps) × (self.new.is_too_long ≡ false)
-            × (self.old.is_too_long ≡ false) }
-        ensures within { result ≡ true → self.old.count ≤ capture_limit → self.new.count ≤ capture_limit }
-        ensures many { result ≡ false → self.old.is_too_long ≡ false → capture_limit < self.old.count + steps }
-        ensures long { result ≡ false → self.new.is_too_long ≡ true }
-        ensures left { (self.new.file ≡ self.old.file) × (self.new.pending ≡ self.old.pending) }
-    {
-        if self.is_too_long || self.count > MOST_STEPS || steps > MOST_STEPS - self.count {
-            self.is_too_long = true;
-            return false;
-        }
-        self.count += steps;
-        true
     }
 
     /// Takes the steps that follow. It fails if memory runs out.
@@ -164,24 +145,26 @@ impl FileCheck {
             → HasTakenSteps number listing first_time self t → malformed_step (with_steps t steps.items) ≡ None
             → IfOk result (λ check. HasTakenSteps number listing first_time check (with_steps t steps.items)) }
     {
-        let mut check = self;
-        if !check.counts(steps.len()) {
-            return Ok(check);
-        }
         let FileCheck {
             file,
             mut pending,
             count,
-            is_too_long,
-        } = check;
+        } = self;
+        let total = count.saturating_add(steps.len());
+        if total > MOST_STEPS {
+            return Ok(FileCheck {
+                file,
+                pending,
+                count: total,
+            });
+        }
         let mut steps = steps;
         pending.append(&mut steps)?;
         let (file, pending) = judge_batches(alloc, file, pending)?;
         Ok(FileCheck {
             file,
             pending,
-            count,
-            is_too_long,
+            count: total,
         })
     }
 
@@ -193,20 +176,19 @@ impl FileCheck {
             → HasTakenSteps number listing first_time self t → malformed_step (with_steps t steps.items) ≡ None
             → FindsOfSteps number listing first_time backplane (with_steps t steps.items) result }
     {
-        let mut check = self;
-        if !check.counts(steps.len()) {
+        let FileCheck {
+            file,
+            pending,
+            count,
+        } = self;
+        let total = count.saturating_add(steps.len());
+        if total > MOST_STEPS {
             let fault = BindFault {
                 line: 0,
                 kind: BindFaultKind::TooManySteps,
             };
             return Err(NoPart::Refused(Refusal::BadBinding(fault)));
         }
-        let FileCheck {
-            file,
-            pending,
-            count: _,
-            is_too_long: _,
-        } = check;
         match judge_all(alloc, file, pending, steps) {
             Ok(file) => part_in(alloc, file, backplane),
             Err(_) => Err(NoPart::Refused(Refusal::Memory)),

@@ -18,7 +18,7 @@ returns-clause-checked g c =
       sound = IsSound-unread r c.requires c.opening_of.ensures.few
           (ap (λ (l : Levels). length l.levels) (sym c.opening_of.ensures.is) ∙ c.new.ensures.whole);
       stepped = subst (λ (t : Trace). HasCheckedSteps (skew_of c.args.skew) t (whole_reading r []).time t check.settler
-          check.checker check.count check.is_too_long) same (c.new.ensures.stepped (whole_reading r []).time);
+          check.checker check.count) same (c.new.ensures.stepped (whole_reading r []).time);
     }
 
 pub returns-clause-compared : goal.returns-clause-compared

@@ -8,8 +8,7 @@ pub returns-clause-taken : goal.returns-clause-taken
 returns-clause-taken c =
     let first : Trace = record { opening = c.args.opening.now; steps = [] } in (
       refl,
-      omega arith,
-      record {
+      λ _. record {
         judged = first;
         all = ap (λ (l : List Step). with_steps first l) c.new-2.ensures.items;
         so_far = c.new.ensures.so_far;
