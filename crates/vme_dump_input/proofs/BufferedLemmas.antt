@@ -9,7 +9,7 @@ use Rattle.std.proofs.Math.Nat.{suc-mul}
 use Rattle.std.proofs.lemmas.Bool.{both_ways, cases_lt}
 use Rattle.std.proofs.lemmas.Nat.{mul-le}
 use Rattle.vme_trace.specs.Streams.{Reading}
-use Rattle.vme_stream.specs.Inputs.{IsInTime, IsReading, most_reads}
+use Rattle.vme_stream.specs.Inputs.{IsInTime, IsReading, longest_input, most_reads}
 use Rattle.vme_stream.proofs.InputLemmas.{IsReading-many_reads, in_time, IsReading-read_to_end, IsReading-more_than}
 use Rattle.vme_stream.specs.InFaults.{InputFailsBy}
 use Rattle.vme_stream.specs.declared.input.InFault.{InFault}
@@ -195,7 +195,7 @@ module _ (old now : Reading) (done : List ℕ) (input : InputSoFar) (h : IsReadT
               (full_reads-next h.full input.room input.read (length more) h.has_full.enough all)
 
 -- `IsReadTo` holds before the first read
-pub IsReadTo-not_read : (here : Reading) (limit room : ℕ) → IsRoomFor limit room
+IsReadTo-not_read : (here : Reading) (limit room : ℕ) → IsRoomFor limit room
     → IsReadTo here here [] (not_read limit room)
 IsReadTo-not_read here limit room may = record {
   consumed = nothing here.left;
@@ -215,6 +215,18 @@ IsReadTo-not_read here limit room may = record {
     nothing : (told : Option (List ℕ)) → Consumes told told []
     nothing None = tt
     nothing (Some bytes) = refl
+
+-- an input of which nothing was read is read to the start
+pub IsReadTo-first : (here : Reading) (limit room : ℕ) (input : InputSoFar) → input ≡ not_read limit room
+    → IsRoomFor limit room → IsReadTo here here [] input
+IsReadTo-first here limit room input is may =
+    subst (λ (i : InputSoFar). IsReadTo here here [] i) (sym is) (IsReadTo-not_read here limit room may)
+
+-- the input of a dump of which nothing was read is read to the start
+pub IsReadTo-dump : (here : Reading) (input : InputSoFar) → input ≡ not_read longest_input 65536
+    → IsReadTo here here [] input
+IsReadTo-dump here input is = IsReadTo-first here longest_input 65536 input is
+    (record { some = omega arith; few = omega arith; small = omega arith })
 
 -- two inputs with the same fields are equal
 pub InputSoFar-same : (a b : InputSoFar) → a.held ≡ b.held → a.limit ≡ b.limit → a.room ≡ b.room → a.read ≡ b.read

@@ -1,11 +1,10 @@
-use Rattle.std.proofs.Common.{[], ap, subst, sym, arith}
+use Rattle.std.proofs.Common.{ap}
 use Rattle.std.specs.Prelude.{Err}
 use Rattle.vme_stream.specs.declared.refusal.Refusal.TheVariants.{Memory}
 use Rattle.vme_stream.proofs.InputLemmas.{IsReading-unread}
-use Rattle.vme_stream.specs.Inputs.{longest_input}
-use Rattle.vme_dump_input.specs.BufferedInputs.{InputSoFar, IsReadTo}
+use Rattle.vme_dump_input.specs.BufferedInputs.{InputSoFar}
 use Rattle.vme_confirm_command.proofs.FoundLemmas.{GivesConfirmation-no_dump}
-use Rattle.vme_dump_input.proofs.BufferedLemmas.{IsReadTo-not_read}
+use Rattle.vme_dump_input.proofs.BufferedLemmas.{IsReadTo-dump}
 use Rattle.vme_confirm_command.proofs.confirm.comparison_bound.Goals as goal
 
 pub returns-in_default : goal.returns-in_default
@@ -17,9 +16,7 @@ returns-in_default g c =
 pub returns-in-Ok-read_definitions : goal.returns-in-Ok-read_definitions
 returns-in-Ok-read_definitions g c =
     let old = g.D.Source.reading c.args.dump.now in
-    let first = subst (λ (i : InputSoFar). IsReadTo old old [] i) (sym c.in-Ok.ensures)
-    (IsReadTo-not_read old longest_input 65536
-    (record { some = omega arith; few = omega arith; small = omega arith })) in
+    let first = IsReadTo-dump old _ c.in-Ok.ensures in
     let limit = ap (λ (i : InputSoFar). i.limit) c.in-Ok.ensures in
     c.compare_with_listing.ensures c.args.bound.now old (c.in-Ok-read_definitions.ensures.read old first limit)
     (c.in-Ok-read_definitions.ensures.limit limit)
@@ -27,9 +24,7 @@ returns-in-Ok-read_definitions g c =
 pub returns : goal.returns
 returns g c =
     let old = g.D.Source.reading c.args.dump.now in
-    let first = subst (λ (i : InputSoFar). IsReadTo old old [] i) (sym c.in-Ok.ensures)
-    (IsReadTo-not_read old longest_input 65536
-    (record { some = omega arith; few = omega arith; small = omega arith })) in
+    let first = IsReadTo-dump old _ c.in-Ok.ensures in
     let limit = ap (λ (i : InputSoFar). i.limit) c.in-Ok.ensures in
     let (dump, reading, gives) = GivesConfirmation-no_dump c.args.skew c.args.bound.now old _ c.in-Err.refusal
     (c.in-Err.ensures.read old first limit) in

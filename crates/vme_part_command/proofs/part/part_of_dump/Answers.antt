@@ -1,8 +1,7 @@
-use Rattle.std.proofs.Common.{[], ap, subst, sym, arith}
+use Rattle.std.proofs.Common.{ap}
 use Rattle.vme_stream.proofs.InputLemmas.{IsReading-unread}
-use Rattle.vme_stream.specs.Inputs.{longest_input}
-use Rattle.vme_dump_input.specs.BufferedInputs.{InputSoFar, IsReadTo}
-use Rattle.vme_dump_input.proofs.BufferedLemmas.{IsReadTo-not_read}
+use Rattle.vme_dump_input.specs.BufferedInputs.{InputSoFar}
+use Rattle.vme_dump_input.proofs.BufferedLemmas.{IsReadTo-dump}
 use Rattle.vme_part_command.proofs.FoundLemmas.{FindsOfDump-dump_refused}
 use Rattle.vme_part_command.proofs.part.part_of_dump.Goals as goal
 
@@ -14,9 +13,7 @@ returns-in_default g c =
 pub returns-in-Ok-read_definitions : goal.returns-in-Ok-read_definitions
 returns-in-Ok-read_definitions g c =
     let old = g.D.Source.reading c.args.dump.now in
-    let first = subst (λ (i : InputSoFar). IsReadTo old old [] i) (sym c.in-Ok.ensures)
-    (IsReadTo-not_read old longest_input 65536
-    (record { some = omega arith; few = omega arith; small = omega arith })) in
+    let first = IsReadTo-dump old _ c.in-Ok.ensures in
     let limit = ap (λ (i : InputSoFar). i.limit) c.in-Ok.ensures in
     c.part_of_begun.ensures c.args.bound.now old (c.in-Ok-read_definitions.ensures.read old first limit)
     (c.in-Ok-read_definitions.ensures.limit limit)
@@ -24,9 +21,7 @@ returns-in-Ok-read_definitions g c =
 pub returns : goal.returns
 returns g c =
     let old = g.D.Source.reading c.args.dump.now in
-    let first = subst (λ (i : InputSoFar). IsReadTo old old [] i) (sym c.in-Ok.ensures)
-    (IsReadTo-not_read old longest_input 65536
-    (record { some = omega arith; few = omega arith; small = omega arith })) in
+    let first = IsReadTo-dump old _ c.in-Ok.ensures in
     let limit = ap (λ (i : InputSoFar). i.limit) c.in-Ok.ensures in
     FindsOfDump-dump_refused c.args.options c.args.bound.now old (g.D.Source.reading c.read_definitions.new.dump)
     c.in-Err.refusal (c.in-Err.ensures.read old first limit)

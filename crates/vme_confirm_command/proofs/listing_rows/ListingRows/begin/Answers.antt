@@ -1,8 +1,8 @@
 -- The rows begin after the header, or there is a fault.
-use Rattle.std.proofs.Common.{[], ap, arith, subst, sym, ◌∙◌}
+use Rattle.std.proofs.Common.{ap, arith, ◌∙◌}
 use Rattle.vme_confirm_command.specs.Confirmations.{longest_listing}
-use Rattle.vme_dump_input.specs.BufferedInputs.{InputSoFar, IsReadTo}
-use Rattle.vme_dump_input.proofs.BufferedLemmas.{IsReadTo-not_read}
+use Rattle.vme_dump_input.specs.BufferedInputs.{InputSoFar}
+use Rattle.vme_dump_input.proofs.BufferedLemmas.{IsReadTo-first}
 use Rattle.vme_confirm_command.proofs.listing_rows.ListingRows.begin.Goals as goal
 
 pub returns : goal.returns
@@ -10,10 +10,8 @@ returns g c = record {
   gave = λ version is.
       let old = g.L.Source.reading c.args.source in
       let limit = ap (λ (i : InputSoFar). i.limit) c.requires in
-      let first = subst (λ (i : InputSoFar). IsReadTo old old [] i) (sym c.requires)
-      (IsReadTo-not_read old longest_listing 2097152
-      (record { some = omega arith; few = omega arith; small = omega arith }))
-      in
+      let first = IsReadTo-first old longest_listing 2097152 _ c.requires
+      (record { some = omega arith; few = omega arith; small = omega arith }) in
       (c.begin_rows.ensures.limit ∙ limit, is, c.in-Ok.ensures.begun old first limit);
 }
 
@@ -22,9 +20,7 @@ returns-in-Err g c = record {
   gave = λ version is.
       let old = g.L.Source.reading c.args.source in
       let limit = ap (λ (i : InputSoFar). i.limit) c.requires in
-      let first = subst (λ (i : InputSoFar). IsReadTo old old [] i) (sym c.requires)
-      (IsReadTo-not_read old longest_listing 2097152
-      (record { some = omega arith; few = omega arith; small = omega arith }))
-      in
+      let first = IsReadTo-first old longest_listing 2097152 _ c.requires
+      (record { some = omega arith; few = omega arith; small = omega arith }) in
       (c.begin_rows.ensures.limit ∙ limit, c.in-Err.ensures.begun old first limit);
 }
