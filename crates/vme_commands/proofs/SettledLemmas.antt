@@ -1,12 +1,10 @@
 -- The deskewed recording of a binding and a dump, and the verdict on it, step by step. Deskewing by 0 changes nothing.
-use Rattle.std.proofs.Common.{◌≡◌, ◌≤◌, ℕ, Bool, true, false, List, length, refl, sym, ap, subst, ◌∙◌, arith}
+use Rattle.std.proofs.Common.{◌≡◌, ◌≤◌, ℕ, true, false, List, length, refl, sym, ap, subst, ◌∙◌, arith}
 use Rattle.std.proofs.lemmas.Bool.{le-ltb}
 use Rattle.std.proofs.lemmas.Bool.Decides.{nat_tests}
-use Rattle.std.specs.Prelude.{Option, Some, None, Result, Ok, Err, IfOk, nat_le, nat_lt, if◌then◌else◌}
+use Rattle.std.specs.Prelude.{Option, Result, Ok, Err, IfOk, nat_lt}
 use Rattle.vcd_read.specs.Contents.{Contents}
 use Rattle.vcd_read.specs.Header.{◌>>=◌}
-use Rattle.vcd_read.specs.Meaning.{dump_of}
-use Rattle.vcd_read.specs.declared.fault.VcdFault.{VcdFault}
 use Rattle.vme_trace.specs.Trace.{Trace}
 use Rattle.vme_trace.specs.WellFormed.{capture_limit}
 use Rattle.vme_trace.specs.declared.verdict.Verdict.{Verdict}
@@ -17,14 +15,13 @@ use Rattle.vme_bind.specs.declared.fault.BindFaultKind.TheVariants.{TooManySteps
 use Rattle.vme_skew.specs.Settled.{settled, settled_or}
 use Rattle.vme_skew.proofs.CapturesStay.{capture_of-zero_skew}
 use Rattle.vme_skew.proofs.Laws.{length-settled}
-use Rattle.vme_stream.specs.Inputs.{longest_input}
 use Rattle.vme_stream.specs.Answers.{AnswerGives, binding_read, capture_by, capture_read, dump_read, judgement_of}
-use Rattle.vme_stream.specs.Answers.{or_bad_binding, or_bad_dump, recording_read, verdict_in_blocks}
+use Rattle.vme_stream.specs.Answers.{or_bad_binding, recording_read, verdict_in_blocks}
 use Rattle.vme_stream.specs.Refusals.{judging_refusal}
-use Rattle.vme_stream.specs.declared.refusal.Input.TheVariants.{Dump}
 use Rattle.vme_stream.specs.declared.refusal.Refusal.{Refusal}
-use Rattle.vme_stream.specs.declared.refusal.Refusal.TheVariants.{Memory, TooLong}
+use Rattle.vme_stream.specs.declared.refusal.Refusal.TheVariants.{Memory}
 use Rattle.vme_stream.proofs.AnswerLemmas.{capture_read-recorded, capture_read-unrecorded, AnswerGives-then}
+use Rattle.vme_stream.proofs.AnswerLemmas.{IsOfText, IsOfText-dump_read}
 use Rattle.vme_summary.specs.declared.stream_judge.NoVerdict.TheVariants as NoVerdict
 use Rattle.vme_commands.specs.Judged.{GivesUnlimited, in_blocks, judged_in_blocks, limited_in_blocks}
 use Rattle.vme_commands.specs.Listings.{recording_in_blocks}
@@ -32,35 +29,6 @@ use Rattle.vme_commands.specs.Settled.{settled_judgement, settled_read, settled_
 use Rattle.vme_commands.proofs.JudgedLemmas.{verdict_in_blocks-in_blocks}
 
 -- ---- deskewing by 0 changes nothing
-
--- the contents, if there are any, are those of a text
-abbrev IsOfText : Result Contents Refusal → Type 0
-IsOfText (Ok contents) = (bytes : List ℕ) × (dump_of bytes ≡ Ok contents)
-IsOfText (Err refusal) = Unit {0}
-
--- the contents of a text are of that text
-IsOfText-dump : (bytes : List ℕ) (r : Result Contents VcdFault) → dump_of bytes ≡ r → IsOfText (or_bad_dump r)
-IsOfText-dump bytes (Ok contents) is = (bytes, is)
-IsOfText-dump bytes (Err fault) is = tt
-
--- the contents of a text, or its refusal
-abbrev or_dumped : List ℕ → Result Contents Refusal
-or_dumped bytes = or_bad_dump (dump_of bytes)
-
--- the bytes of a dump, if it isn't too long
-abbrev bytes_if_short : List ℕ → Bool → Result (List ℕ) Refusal
-bytes_if_short bytes short = if short then Ok bytes else Err (TooLong Dump)
-
--- the contents of the dump in an input are of a text
-IsOfText-dump_read : (d : Option (List ℕ)) → IsOfText (dump_read d)
-unfolding dump_read
-IsOfText-dump_read None = tt
-IsOfText-dump_read (Some bytes) = by_test (nat_le (length bytes) longest_input)
-  where
-    -- by whether the dump is short enough
-    by_test : (short : Bool) → IsOfText (bytes_if_short bytes short >>= or_dumped)
-    by_test true = IsOfText-dump bytes (dump_of bytes) refl
-    by_test false = tt
 
 -- a recording, or the refusal of the binding, may be deskewed before or after the refusal is made
 settled_or-or_bad_binding : (skew : ℕ) (r : Result Trace BindFault) → settled_or skew (or_bad_binding r)

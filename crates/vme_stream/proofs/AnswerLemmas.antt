@@ -1,7 +1,7 @@
 -- What is read, recorded and judged of two inputs, step by step: each step's result passes on to the answer, or its
 -- refusal does.
-use Rattle.std.proofs.Common.{◌≡◌, ◌≤◌, ◌<◌, ℕ, List, length, refl, ap, sym, subst, ◌∙◌}
-use Rattle.std.specs.Prelude.{Option, Some, None, Result, Ok, Err}
+use Rattle.std.proofs.Common.{◌≡◌, ◌≤◌, ◌<◌, ℕ, Bool, true, false, List, length, refl, ap, sym, subst, ◌∙◌}
+use Rattle.std.specs.Prelude.{Option, Some, None, Result, Ok, Err, nat_le, if◌then◌else◌}
 use Rattle.std.proofs.lemmas.Bool.{le-leb, le-ltb, lt-leb, lt-ltb}
 use Rattle.vcd_read.specs.Contents.{Contents}
 use Rattle.vcd_read.specs.Header.{◌>>=◌}
@@ -178,6 +178,31 @@ pub dump_read-whole : (text : List ℕ) → length text ≤ longest_input → du
 unfolding dump_read
 dump_read-whole text short =
     ap (λ (w : Result (List ℕ) Refusal). w >>= dumped_in) (bytes_within_limit-short Dump text short)
+
+-- the contents, if there are any, are those of a text
+abbrev pub IsOfText : Result Contents Refusal → Type 0
+IsOfText (Ok contents) = (bytes : List ℕ) × (dump_of bytes ≡ Ok contents)
+IsOfText (Err refusal) = Unit {0}
+
+-- the contents of a text are of that text
+IsOfText-dump : (bytes : List ℕ) (r : Result Contents VcdFault) → dump_of bytes ≡ r → IsOfText (or_bad_dump r)
+IsOfText-dump bytes (Ok contents) is = (bytes, is)
+IsOfText-dump bytes (Err fault) is = tt
+
+-- the bytes of a dump, if it isn't too long
+abbrev bytes_if_short : List ℕ → Bool → Result (List ℕ) Refusal
+bytes_if_short bytes short = if short then Ok bytes else Err (TooLong Dump)
+
+-- the contents of the dump in an input are of a text
+pub IsOfText-dump_read : (d : Option (List ℕ)) → IsOfText (dump_read d)
+unfolding dump_read
+IsOfText-dump_read None = tt
+IsOfText-dump_read (Some bytes) = by_test (nat_le (length bytes) longest_input)
+  where
+    -- by whether the dump is short enough
+    by_test : (short : Bool) → IsOfText (bytes_if_short bytes short >>= dumped_in)
+    by_test true = IsOfText-dump bytes (dump_of bytes) refl
+    by_test false = tt
 
 -- ---- an input whose bytes can't be had
 
