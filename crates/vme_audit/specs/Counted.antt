@@ -77,6 +77,23 @@ is_pending row = false
 abbrev pub count_of : (Row → Bool) → List Row → ℕ
 count_of is rows = length (filter is rows)
 
+-- nothing is counted
+abbrev pub nothing_counted : Counts
+nothing_counted =
+    record {
+      resets = 0;
+      tenures = 0;
+      single = 0;
+      block = 0;
+      free = 0;
+      acknowledge = 0;
+      reads = 0;
+      writes = 0;
+      by_dtack = 0;
+      by_berr = 0;
+      pending = 0;
+    }
+
 -- the counts of a list of rows
 unfoldable pub counts_of_rows : List Row → Counts
 counts_of_rows rows =

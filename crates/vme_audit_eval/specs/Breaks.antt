@@ -5,6 +5,7 @@ use Rattle.vme_trace.specs.declared.rule.Rule.{Rule}
 use Rattle.vme_trace.specs.declared.rule.Rule.TheVariants.{U1, H4, B1, B3}
 use Rattle.vme_trace.specs.declared.verdict.Break.{Break}
 use Rattle.vme_eval.specs.Steps.{low, high, unknown, from_idle}
+use Rattle.vme_audit.specs.Counted.{nothing_counted}
 use Rattle.vme_audit.specs.declared.allowance.Allowance.{Allowance}
 use Rattle.vme_audit.specs.declared.counts.Counts.{Counts}
 use Rattle.vme_audit.specs.declared.outcome.CoverageGap.TheVariants.{NeverIdleBehind, FewAnswers}
@@ -20,23 +21,6 @@ allow r = record { rule = r; line = None }
 
 abbrev pub allow_on : Rule → ℕ → Allowance
 allow_on r l = record { rule = r; line = Some l }
-
--- nothing is counted
-abbrev pub nothing_counted : Counts
-nothing_counted =
-    record {
-      resets = 0;
-      tenures = 0;
-      single = 0;
-      block = 0;
-      free = 0;
-      acknowledge = 0;
-      reads = 0;
-      writes = 0;
-      by_dtack = 0;
-      by_berr = 0;
-      pending = 0;
-    }
 
 -- a read that DTACK answers
 abbrev pub one_read : Counts

@@ -6,10 +6,11 @@ use Rattle.vme_trace.specs.declared.rule.Rule.TheVariants.{H2, H4}
 use Rattle.vme_trace.specs.declared.step.Change.{Change}
 use Rattle.vme_eval.specs.Steps.{low, high, unknown_lines, idle_lines, from_idle, from_idle_but, once_granted}
 use Rattle.vme_audit.specs.Allowances.{stopped_at}
+use Rattle.vme_audit.specs.Counted.{nothing_counted}
 use Rattle.vme_audit.specs.declared.outcome.CoverageGap.TheVariants.{NeverIdle, NeverIdleBehind, FewAnswers, Hang}
 use Rattle.vme_audit.specs.declared.outcome.Outcome.TheVariants.{Conforming, NotCovered, Broken, Unreadable}
 use Rattle.vme_audit_eval.specs.Audited.{Audited}
-use Rattle.vme_audit_eval.specs.Breaks.{allow, allow_on, at_instant, nothing_counted, one_read, two_stray_answers}
+use Rattle.vme_audit_eval.specs.Breaks.{allow, allow_on, at_instant, one_read, two_stray_answers}
 use Rattle.vme_audit_eval.specs.Breaks.{break_in_the_last_step, nothing_judged_while_lost}
 
 -- a cycle of one transfer on a busy bus, after `changes`; `later` has its answer, if there is one

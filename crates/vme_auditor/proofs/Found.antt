@@ -11,7 +11,7 @@ use Rattle.vme_trace.specs.declared.step.Step.{Step}
 use Rattle.vme_monitor.specs.OverStretches.{has_started}
 use Rattle.vme_monitor.specs.declared.view.StepView.{StepView}
 use Rattle.vme_audit.specs.AskedRules.{is_asked}
-use Rattle.vme_audit.specs.Counted.{counts, rows_of}
+use Rattle.vme_audit.specs.Counted.{counts, nothing_counted, rows_of}
 use Rattle.vme_audit.specs.Covered.{hang, hanging, is_judged_part}
 use Rattle.vme_audit.specs.Parts.{breaks, last_part, parts}
 use Rattle.vme_auditor.specs.Audited.{HasAudited, reached_after, reached_at}
@@ -27,7 +27,7 @@ use Rattle.vme_auditor.specs.declared.tally.Tally.{Tally}
 use Rattle.vme_auditor.proofs.AskedParts.{KnowsStart, events-after_steps, HaveHappened-every}
 use Rattle.vme_auditor.proofs.CountedParts.{AreCounted-every, AreHung-every, started_of}
 use Rattle.vme_auditor.proofs.JudgedParts.{HasLastBreak-steps, memories-after_steps, AreJudged-every}
-use Rattle.vme_auditor.proofs.MarkCounts.{nothing_counted, sum_of-nothing}
+use Rattle.vme_auditor.proofs.MarkCounts.{sum_of-nothing}
 use Rattle.vme_auditor.proofs.PartRows.{ShowsMarks}
 use Rattle.vme_auditor.proofs.TalliedSteps.{tally-after_steps, tally_by}
 use Rattle.vme_auditor.proofs.TallyBounds.{Fits, IsExact, pending_exact, tally_exact}

@@ -19,10 +19,10 @@ use Rattle.vme_monitor.specs.declared.mark.MarkKind.TheVariants as kind
 use Rattle.vme_monitor.specs.declared.mark.TransferAnswer.{TransferAnswer}
 use Rattle.vme_summary.specs.MarkedRows.{answer_of, cycle_after, first_instant, is_close, is_reset, is_transfer}
 use Rattle.vme_summary.specs.MarkedRows.{marked_answer, marked_direction, marked_line, marked_transfer, rows_of}
-use Rattle.vme_audit.specs.Counted.{counts_of_rows}
+use Rattle.vme_audit.specs.Counted.{counts_of_rows, nothing_counted}
 use Rattle.vme_audit.specs.declared.counts.Counts.{Counts}
 use Rattle.vme_auditor.specs.Tallied.{at_answer, at_cycle, at_reset, at_tenure, at_transfer, by_line, counts_so_far}
-use Rattle.vme_auditor.specs.Tallied.{no_counts, of_direction}
+use Rattle.vme_auditor.specs.Tallied.{of_direction}
 use Rattle.vme_auditor.specs.declared.tally.StartedTransfer.{StartedTransfer}
 use Rattle.vme_auditor.specs.declared.tally.Tally.{Tally}
 
@@ -42,10 +42,6 @@ sum_of c d =
       by_berr = c.by_berr + d.by_berr;
       pending = c.pending + d.pending;
     }
-
--- no event is counted
-abbrev pub nothing_counted : Counts
-nothing_counted = no_counts.counts
 
 -- one transfer without an answer is counted, and nothing else
 abbrev one_pending : Counts

@@ -8,6 +8,7 @@ use Rattle.vme_monitor.specs.declared.mark.BusGrant.{BusGrant}
 use Rattle.vme_monitor.specs.declared.mark.CycleStart.{CycleStart}
 use Rattle.vme_monitor.specs.declared.mark.StepMarks.{StepMarks}
 use Rattle.vme_monitor.specs.declared.mark.TransferAnswer.{TransferAnswer}
+use Rattle.vme_audit.specs.Counted.{nothing_counted}
 use Rattle.vme_audit.specs.declared.counts.Counts.{Counts}
 use Rattle.vme_auditor.specs.declared.tally.StartedTransfer.{StartedTransfer}
 use Rattle.vme_auditor.specs.declared.tally.Tally.{Tally}
@@ -18,25 +19,7 @@ counted n = min (n + 1) (2 ^ 64 - 1)
 
 -- nothing is counted yet
 abbrev pub no_counts : Tally
-no_counts =
-    record {
-      counts = record {
-        resets = 0;
-        tenures = 0;
-        single = 0;
-        block = 0;
-        free = 0;
-        acknowledge = 0;
-        reads = 0;
-        writes = 0;
-        by_dtack = 0;
-        by_berr = 0;
-        pending = 0;
-      };
-      has_cycle = false;
-      waiting = None;
-      unanswered = None;
-    }
+no_counts = record { counts = nothing_counted; has_cycle = false; waiting = None; unanswered = None }
 
 -- what is counted, where `more` adds one to a count: with or without saturation
 module _ (more : ℕ → ℕ) where
