@@ -1,9 +1,11 @@
 -- Each recording of `asking` asks, by the definitions, the rules that stand beside it: computed. The lemma
 -- `NAME_agrees` says so of the recording NAME.
 use Rattle.std.proofs.Common.{refl}
+use Rattle.std.proofs.lemmas.List.Elements.{All-from_recursion}
+use Rattle.std.specs.Prelude.{All}
 use Rattle.vme_eval.proofs.Everything.{everything}
 use Rattle.vme_audit_eval.proofs.Computing.{asked}
-use Rattle.vme_audit_eval.specs.Audited.{AskingAgrees, AllAsk}
+use Rattle.vme_audit_eval.specs.Audited.{AskingAgrees}
 use Rattle.vme_audit_eval.specs.Asking.{never_idle, idle, strobe_rises_at_the_start, cycle_starts, cycle_ends}
 use Rattle.vme_audit_eval.specs.Asking.{cycle_starts_with_a_reset, cycle_starts_after_a_reset, transfer_starts}
 use Rattle.vme_audit_eval.specs.Asking.{transfer_starts_by_both, write_starts, write_after_a_read_starts, strobe_rises}
@@ -187,8 +189,8 @@ unfolding everything asked acknowledge_is_asked_for
 acknowledge_is_asked_for_agrees = record { well_formed = refl; asked = refl }
 
 -- each recording of `asking` is well formed, and asks the rules that stand beside it
-pub asking_agrees : AllAsk asking
-asking_agrees = (
+pub asking_agrees : All AskingAgrees asking
+asking_agrees = All-from_recursion AskingAgrees asking (
   never_idle_agrees,
   (
     idle_agrees,

@@ -1,9 +1,11 @@
 -- The audit of each recording of `several_breaks` has, by the definitions, the results that stand beside it: computed.
 -- The lemma `NAME_agrees` says so of the recording NAME.
 use Rattle.std.proofs.Common.{refl}
+use Rattle.std.proofs.lemmas.List.Elements.{All-from_recursion}
+use Rattle.std.specs.Prelude.{All}
 use Rattle.vme_eval.proofs.Everything.{everything, rows}
 use Rattle.vme_audit_eval.proofs.Computing.{audits}
-use Rattle.vme_audit_eval.specs.Audited.{AuditAgrees, AllAudits}
+use Rattle.vme_audit_eval.specs.Audited.{AuditAgrees}
 use Rattle.vme_audit_eval.specs.Breaks.{two_stray_answers, one_of_two_allowed, both_allowed_by_line}
 use Rattle.vme_audit_eval.specs.Breaks.{both_allowed_by_rule, another_rule_allowed, stray_answer_before_an_idle_instant}
 use Rattle.vme_audit_eval.specs.Breaks.{break_at_an_idle_instant, break_at_the_next_instant, two_breaks_at_one_instant}
@@ -138,8 +140,8 @@ cycle_cut_off_at_its_start_agrees = record {
 
 -- each recording of `several_breaks` is well formed, and its audit has the starts, breaks, counts and outcome that
 -- stand beside it
-pub several_breaks_agree : AllAudits several_breaks
-several_breaks_agree = (
+pub several_breaks_agree : All AuditAgrees several_breaks
+several_breaks_agree = All-from_recursion AuditAgrees several_breaks (
   two_stray_answers_agrees,
   (
     one_of_two_allowed_agrees,

@@ -1,9 +1,11 @@
 -- The audit of each recording of `coverage` has, by the definitions, the results that stand beside it: computed. The
 -- lemma `NAME_agrees` says so of the recording NAME.
 use Rattle.std.proofs.Common.{refl}
+use Rattle.std.proofs.lemmas.List.Elements.{All-from_recursion}
+use Rattle.std.specs.Prelude.{All}
 use Rattle.vme_eval.proofs.Everything.{everything, rows}
 use Rattle.vme_audit_eval.proofs.Computing.{audits}
-use Rattle.vme_audit_eval.specs.Audited.{AuditAgrees, AllAudits}
+use Rattle.vme_audit_eval.specs.Audited.{AuditAgrees}
 use Rattle.vme_audit_eval.specs.Coverage.{nothing_known, idle_and_nothing_wanted, idle_and_one_wanted, read_in_a_tenure}
 use Rattle.vme_audit_eval.specs.Coverage.{one_answer_of_two, tenure_cut_off, bus_error_to_a_write, free_cycles}
 use Rattle.vme_audit_eval.specs.Coverage.{interrupt_acknowledge, bus_hangs, bus_hangs_and_one_wanted}
@@ -141,8 +143,8 @@ stopped_nowhere_agrees = record { well_formed = refl; starts = refl; breaks = re
 
 -- each recording of `coverage` is well formed, and its audit has the starts, breaks, counts and outcome that stand
 -- beside it
-pub coverage_agrees : AllAudits coverage
-coverage_agrees = (
+pub coverage_agrees : All AuditAgrees coverage
+coverage_agrees = All-from_recursion AuditAgrees coverage (
   nothing_known_agrees,
   (
     idle_and_nothing_wanted_agrees,

@@ -1,5 +1,5 @@
 -- A worked recording, and the results that its audit should have.
-use Rattle.std.specs.Prelude.{◌≡◌, ℕ, List, [], ◌∷◌, None, map, filter}
+use Rattle.std.specs.Prelude.{◌≡◌, ℕ, List, None, map, filter}
 use Rattle.vme_trace.specs.Rules.{all_rules}
 use Rattle.vme_trace.specs.Trace.{Trace}
 use Rattle.vme_trace.specs.WellFormed.{malformed_step}
@@ -35,10 +35,6 @@ pub record AuditAgrees (r : Audited) : Type 0 where
   pub counts : counts r.trace ≡ r.counts
   pub outcome : outcome r.allowances r.wanted r.trace ≡ r.outcome
 
-abbrev pub AllAudits : List Audited → Type 0
-AllAudits [] = Unit {0}
-AllAudits (r ∷ rs) = AuditAgrees r × AllAudits rs
-
 -- a recording and the rules that it should ask
 pub record Asking : Type 0 where
   pub trace : Trace
@@ -47,7 +43,3 @@ pub record Asking : Type 0 where
 pub record AskingAgrees (r : Asking) : Type 0 where
   pub well_formed : malformed_step r.trace ≡ None
   pub asked : filter (is_asked r.trace) all_rules ≡ r.asked
-
-abbrev pub AllAsk : List Asking → Type 0
-AllAsk [] = Unit {0}
-AllAsk (r ∷ rs) = AskingAgrees r × AllAsk rs

@@ -1,6 +1,8 @@
 -- Each recording of `acknowledges` has, by the definitions, the verdict and the rows that stand beside it: computed.
 use Rattle.std.proofs.Common.{refl}
-use Rattle.vme_eval.specs.Recording.{Agrees, AllAgree}
+use Rattle.std.proofs.lemmas.List.Elements.{All-from_recursion}
+use Rattle.std.specs.Prelude.{All}
+use Rattle.vme_eval.specs.Recording.{Agrees}
 use Rattle.vme_eval.specs.Acknowledges.{acknowledges, acknowledge_cycle, acknowledge_of_level_3, acknowledge_skips_slot}
 use Rattle.vme_eval.specs.Acknowledges.{acknowledge_outside_an_acknowledge_cycle, acknowledge_with_its_input}
 use Rattle.vme_eval.specs.Acknowledges.{acknowledge_as_its_input_rises, acknowledge_before_strobe}
@@ -108,8 +110,8 @@ unfolding everything rows acknowledged_twice
 acknowledged_twice_agrees = record { well_formed = refl; verdict = refl; rows = refl }
 
 -- all recordings of `acknowledges` have the verdict and the rows that stand beside them
-pub acknowledges_agree : AllAgree acknowledges
-acknowledges_agree = (
+pub acknowledges_agree : All Agrees acknowledges
+acknowledges_agree = All-from_recursion Agrees acknowledges (
   acknowledge_cycle_agrees,
   (
     acknowledge_of_level_3_agrees,

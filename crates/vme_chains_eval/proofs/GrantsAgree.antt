@@ -1,6 +1,8 @@
 -- Each recording of `grants` has, by the definitions, the verdict and the rows that stand beside it: computed.
 use Rattle.std.proofs.Common.{refl}
-use Rattle.vme_eval.specs.Recording.{Agrees, AllAgree}
+use Rattle.std.proofs.lemmas.List.Elements.{All-from_recursion}
+use Rattle.std.specs.Prelude.{All}
+use Rattle.vme_eval.specs.Recording.{Agrees}
 use Rattle.vme_eval.specs.Grants.{grants, slot_grants_ungranted, slot_grants_with_its_input}
 use Rattle.vme_eval.specs.Grants.{slot_grants_as_its_input_rises, slot_ends_its_grant_early}
 use Rattle.vme_eval.specs.Grants.{slot_ends_its_grant_as_its_input_falls, second_level_granted}
@@ -88,8 +90,8 @@ unfolding everything rows grant_withdrawn
 grant_withdrawn_agrees = record { well_formed = refl; verdict = refl; rows = refl }
 
 -- all recordings of `grants` have the verdict and the rows that stand beside them
-pub grants_agree : AllAgree grants
-grants_agree = (
+pub grants_agree : All Agrees grants
+grants_agree = All-from_recursion Agrees grants (
   slot_grants_ungranted_agrees,
   (
     slot_grants_with_its_input_agrees,

@@ -1,6 +1,8 @@
 -- Each recording of `tenures` has, by the definitions, the verdict and the rows that stand beside it: computed.
 use Rattle.std.proofs.Common.{refl}
-use Rattle.vme_eval.specs.Recording.{Agrees, AllAgree}
+use Rattle.std.proofs.lemmas.List.Elements.{All-from_recursion}
+use Rattle.std.specs.Prelude.{All}
+use Rattle.vme_eval.specs.Recording.{Agrees}
 use Rattle.vme_eval.specs.Tenures.{tenures, tenure_on_level_0, tenure_on_level_1, tenure_on_level_2}
 use Rattle.vme_eval.specs.Tenures.{taken_by_the_last_slot, open_tenure_ends, tenure_after_an_open_one, two_tenures}
 use Rattle.vme_eval.specs.Tenures.{grant_read_at_the_instant_before, slot_read_as_the_bus_is_taken}
@@ -110,8 +112,8 @@ unfolding everything rows past_the_last_slot_as_the_grant_ends
 past_the_last_slot_as_the_grant_ends_agrees = record { well_formed = refl; verdict = refl; rows = refl }
 
 -- all recordings of `tenures` have the verdict and the rows that stand beside them
-pub tenures_agree : AllAgree tenures
-tenures_agree = (
+pub tenures_agree : All Agrees tenures
+tenures_agree = All-from_recursion Agrees tenures (
   tenure_on_level_0_agrees,
   (
     tenure_on_level_1_agrees,

@@ -12,22 +12,23 @@
 //! Nothing is said of other recordings. Start reading at the law of interest.
 #![tactic(auto)]
 
-ghost use Rattle.vme_eval.specs.Recording.{AllAgree};
+ghost use Rattle.std.specs.Prelude.{All};
+ghost use Rattle.vme_eval.specs.Recording.{Agrees};
 ghost use Rattle.vme_eval.specs.Grants.{grants};
 ghost use Rattle.vme_eval.specs.Tenures.{tenures};
 ghost use Rattle.vme_eval.specs.Acknowledges.{acknowledges};
 
 /// Grants along their chains, and the requests that they answer.
 pub fn grants()
-    ensures { AllAgree grants }
+    ensures { All Agrees grants }
 {}
 
 /// Tenures of the bus, and the grants that they take.
 pub fn tenures()
-    ensures { AllAgree tenures }
+    ensures { All Agrees tenures }
 {}
 
 /// Interrupt acknowledges along their chain.
 pub fn acknowledges()
-    ensures { AllAgree acknowledges }
+    ensures { All Agrees acknowledges }
 {}

@@ -1,5 +1,5 @@
 -- A worked recording: its steps, and what the definitions say of it.
-use Rattle.std.specs.Prelude.{◌≡◌, ℕ, List, [], ◌∷◌, None, map}
+use Rattle.std.specs.Prelude.{◌≡◌, ℕ, List, None, map}
 use Rattle.vme_trace.specs.Judged.{Stretch, judged_stretches}
 use Rattle.vme_trace.specs.Trace.{Trace}
 use Rattle.vme_trace.specs.Verdict.{verdict}
@@ -27,8 +27,3 @@ pub record Agrees (r : Recording) : Type 0 where
   pub well_formed : malformed_step r.trace ≡ None
   pub verdict : verdict r.trace ≡ r.verdict
   pub rows : listed_rows r.trace ≡ r.rows
-
--- each of the recordings agrees
-abbrev pub AllAgree : List Recording → Type 0
-AllAgree [] = Unit {0}
-AllAgree (r ∷ rs) = Agrees r × AllAgree rs

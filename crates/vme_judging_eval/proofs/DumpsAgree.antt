@@ -1,6 +1,8 @@
 -- Each recording of `dumps` has, by the definitions, the verdict and the rows that stand beside it: computed.
 use Rattle.std.proofs.Common.{refl}
-use Rattle.vme_eval.specs.Recording.{Agrees, AllAgree}
+use Rattle.std.proofs.lemmas.List.Elements.{All-from_recursion}
+use Rattle.std.specs.Prelude.{All}
+use Rattle.vme_eval.specs.Recording.{Agrees}
 use Rattle.vme_eval.specs.Dumps.{dumps, dumped_read, dumped_nothing, dumped_stray_answer, dumped_unknown_strobe}
 use Rattle.vme_eval.specs.Dumps.{dumped_gap, strobe_lost_at_once, answer_low_before_judging}
 use Rattle.vme_eval.specs.Dumps.{address_lost_between_cycles, earlier_break_of_a_later_rule}
@@ -42,8 +44,8 @@ pub earlier_break_of_a_later_rule_agrees : Agrees earlier_break_of_a_later_rule
 unfolding everything rows earlier_break_of_a_later_rule
 earlier_break_of_a_later_rule_agrees = record { well_formed = refl; verdict = refl; rows = refl }
 
-pub dumps_agree : AllAgree dumps
-dumps_agree = (
+pub dumps_agree : All Agrees dumps
+dumps_agree = All-from_recursion Agrees dumps (
   dumped_read_agrees,
   (
     dumped_nothing_agrees,

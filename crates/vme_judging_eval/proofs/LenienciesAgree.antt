@@ -1,6 +1,8 @@
 -- Each recording of `leniencies` has, by the definitions, the verdict and the rows that stand beside it: computed.
 use Rattle.std.proofs.Common.{refl}
-use Rattle.vme_eval.specs.Recording.{Agrees, AllAgree}
+use Rattle.std.proofs.lemmas.List.Elements.{All-from_recursion}
+use Rattle.std.specs.Prelude.{All}
+use Rattle.vme_eval.specs.Recording.{Agrees}
 use Rattle.vme_eval.specs.Leniencies.{leniencies, chain_net_left_low, acknowledge_net_left_low}
 use Rattle.vme_eval.specs.Leniencies.{acknowledge_passed_on_twice, read_modify_write_at_two_addresses}
 use Rattle.vme_eval.specs.Leniencies.{read_modify_write_of_two_sizes, block_of_long_words_without_its_long_word_line}
@@ -58,8 +60,8 @@ unfolding everything rows answer_and_direction_after_one_strobe
 answer_and_direction_after_one_strobe_agrees = record { well_formed = refl; verdict = refl; rows = refl }
 
 -- all recordings of `leniencies` have the verdict and the rows that stand beside them
-pub leniencies_agree : AllAgree leniencies
-leniencies_agree = (
+pub leniencies_agree : All Agrees leniencies
+leniencies_agree = All-from_recursion Agrees leniencies (
   chain_net_left_low_agrees,
   (
     acknowledge_net_left_low_agrees,

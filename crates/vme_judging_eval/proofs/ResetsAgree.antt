@@ -1,6 +1,8 @@
 -- Each recording of `resets` has, by the definitions, the verdict and the rows that stand beside it: computed.
 use Rattle.std.proofs.Common.{refl}
-use Rattle.vme_eval.specs.Recording.{Agrees, AllAgree}
+use Rattle.std.proofs.lemmas.List.Elements.{All-from_recursion}
+use Rattle.std.specs.Prelude.{All}
+use Rattle.vme_eval.specs.Recording.{Agrees}
 use Rattle.vme_eval.specs.Resets.{resets, reset_in_a_read, busy_after_the_reset, answer_after_the_reset}
 use Rattle.vme_eval.specs.Resets.{strobe_lost_with_the_reset, reset_line_lost, reset_forgets_a_request}
 use Rattle.vme_eval.specs.Resets.{request_without_a_reset, reset_for_good, reset_before_judging, reset_at_the_end}
@@ -155,8 +157,8 @@ unfolding everything rows unreadable_after_a_break_before_the_reset
 unreadable_after_a_break_before_the_reset_agrees = record { well_formed = refl; verdict = refl; rows = refl }
 
 -- all recordings of `resets` have the verdict and the rows that stand beside them
-pub resets_agree : AllAgree resets
-resets_agree = (
+pub resets_agree : All Agrees resets
+resets_agree = All-from_recursion Agrees resets (
   reset_in_a_read_agrees,
   (
     busy_after_the_reset_agrees,

@@ -1,6 +1,8 @@
 -- Each recording of `same_instant` has, by the definitions, the verdict and the rows that stand beside it: computed.
 use Rattle.std.proofs.Common.{refl}
-use Rattle.vme_eval.specs.Recording.{Agrees, AllAgree}
+use Rattle.std.proofs.lemmas.List.Elements.{All-from_recursion}
+use Rattle.std.specs.Prelude.{All}
+use Rattle.vme_eval.specs.Recording.{Agrees}
 use Rattle.vme_eval.specs.SameInstant.{same_instant, modifier_and_direction_unknown}
 use Rattle.vme_eval.specs.SameInstant.{direction_unknown_as_the_answer_is_low, data_unknown_as_the_answer_is_low}
 use Rattle.vme_eval.specs.SameInstant.{answered_again_as_the_answer_is_withdrawn, address_and_direction_change}
@@ -86,8 +88,8 @@ unfolding everything rows address_and_data_unknown
 address_and_data_unknown_agrees = record { well_formed = refl; verdict = refl; rows = refl }
 
 -- all recordings of `same_instant` have the verdict and the rows that stand beside them
-pub same_instant_agree : AllAgree same_instant
-same_instant_agree = (
+pub same_instant_agree : All Agrees same_instant
+same_instant_agree = All-from_recursion Agrees same_instant (
   modifier_and_direction_unknown_agrees,
   (
     direction_unknown_as_the_answer_is_low_agrees,

@@ -21,11 +21,11 @@
 //! recordings and blocks. Start reading at the law of interest.
 #![tactic(auto)]
 
-ghost use Rattle.std.specs.Prelude.{◌≡◌, ◌∷◌, [], Some};
+ghost use Rattle.std.specs.Prelude.{◌≡◌, ◌∷◌, [], All, Some};
 ghost use Rattle.vme_trace.specs.LineNumbers.{AS, BBSY, DS0, grant};
 ghost use Rattle.vme_trace.specs.Tenures.{tenure_level};
 ghost use Rattle.vme_trace.specs.WellFormed.{malformed_step};
-ghost use Rattle.vme_eval.specs.Recording.{AllAgree, judged};
+ghost use Rattle.vme_eval.specs.Recording.{Agrees, judged};
 ghost use Rattle.vme_eval.specs.Steps.{at, dumped_at, high, low};
 ghost use Rattle.vme_eval.specs.Dumps.{dumps};
 ghost use Rattle.vme_eval.specs.Grants.{two_levels_granted_at_once};
@@ -63,22 +63,22 @@ pub fn judged_stretches()
 
 /// Recordings of one slot, as from a dump, and where judging starts and ends.
 pub fn dumps()
-    ensures { AllAgree dumps }
+    ensures { All Agrees dumps }
 {}
 
 /// Resets, which end what is judged and name no break, and the starts after them.
 pub fn resets()
-    ensures { AllAgree resets }
+    ensures { All Agrees resets }
 {}
 
 /// Recordings that break two rules at one instant: the rule that comes first is named.
 pub fn same_instant()
-    ensures { AllAgree same_instant }
+    ensures { All Agrees same_instant }
 {}
 
 /// What conforms though the standard's order of edges forbids it.
 pub fn leniencies()
-    ensures { AllAgree leniencies }
+    ensures { All Agrees leniencies }
 {}
 
 /// Blocks that follow one another join, across an empty block too.

@@ -1,6 +1,8 @@
 -- Each recording of `held_lines` has, by the definitions, the verdict and the rows that stand beside it: computed.
 use Rattle.std.proofs.Common.{refl}
-use Rattle.vme_eval.specs.Recording.{Agrees, AllAgree}
+use Rattle.std.proofs.lemmas.List.Elements.{All-from_recursion}
+use Rattle.std.specs.Prelude.{All}
+use Rattle.vme_eval.specs.Recording.{Agrees}
 use Rattle.vme_eval.specs.HeldLines.{held_lines, short_address, address_changes_early, address_changes_with_answer}
 use Rattle.vme_eval.specs.HeldLines.{unneeded_line_changes, address_lost_in_the_cycle, highest_address_line_changes}
 use Rattle.vme_eval.specs.HeldLines.{address_changes_as_the_cycle_ends, address_changes_after_an_answer_at_the_start}
@@ -114,8 +116,8 @@ unfolding everything rows lowest_address_line_changes
 lowest_address_line_changes_agrees = record { well_formed = refl; verdict = refl; rows = refl }
 
 -- all recordings of `held_lines` have the verdict and the rows that stand beside them
-pub held_lines_agree : AllAgree held_lines
-held_lines_agree = (
+pub held_lines_agree : All Agrees held_lines
+held_lines_agree = All-from_recursion Agrees held_lines (
   short_address_agrees,
   (
     address_changes_early_agrees,

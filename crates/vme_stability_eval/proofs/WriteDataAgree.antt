@@ -1,6 +1,8 @@
 -- Each recording of `write_data` has, by the definitions, the verdict and the rows that stand beside it: computed.
 use Rattle.std.proofs.Common.{refl}
-use Rattle.vme_eval.specs.Recording.{Agrees, AllAgree}
+use Rattle.std.proofs.lemmas.List.Elements.{All-from_recursion}
+use Rattle.std.specs.Prelude.{All}
+use Rattle.vme_eval.specs.Recording.{Agrees}
 use Rattle.vme_eval.specs.WriteData.{write_data, data_unknown, unmoved_data_unknown, data_change_with_the_answer}
 use Rattle.vme_eval.specs.WriteData.{data_change, unmoved_data_change, data_of_a_read, second_byte_unknown}
 use Rattle.vme_eval.specs.WriteData.{second_byte_unknown_with_the_answer, second_byte_unknown_after_the_answer}
@@ -158,8 +160,8 @@ unfolding everything rows data_lost_with_a_bus_error
 data_lost_with_a_bus_error_agrees = record { well_formed = refl; verdict = refl; rows = refl }
 
 -- all recordings of `write_data` have the verdict and the rows that stand beside them
-pub write_data_agree : AllAgree write_data
-write_data_agree = (
+pub write_data_agree : All Agrees write_data
+write_data_agree = All-from_recursion Agrees write_data (
   data_unknown_agrees,
   (
     unmoved_data_unknown_agrees,

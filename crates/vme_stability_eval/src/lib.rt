@@ -11,16 +11,17 @@
 //! Nothing is said of other recordings. Start reading at the law of interest.
 #![tactic(auto)]
 
-ghost use Rattle.vme_eval.specs.Recording.{AllAgree};
+ghost use Rattle.std.specs.Prelude.{All};
+ghost use Rattle.vme_eval.specs.Recording.{Agrees};
 ghost use Rattle.vme_eval.specs.HeldLines.{held_lines};
 ghost use Rattle.vme_eval.specs.WriteData.{write_data};
 
 /// Lines that are known and held while a cycle or a transfer lasts.
 pub fn held_lines()
-    ensures { AllAgree held_lines }
+    ensures { All Agrees held_lines }
 {}
 
 /// Data lines that a write moves: known as its strobes fall, and held until the answer.
 pub fn write_data()
-    ensures { AllAgree write_data }
+    ensures { All Agrees write_data }
 {}

@@ -1,6 +1,8 @@
 -- Each recording of `cycles` has, by the definitions, the verdict and the rows that stand beside it: computed.
 use Rattle.std.proofs.Common.{refl}
-use Rattle.vme_eval.specs.Recording.{Agrees, AllAgree}
+use Rattle.std.proofs.lemmas.List.Elements.{All-from_recursion}
+use Rattle.std.specs.Prelude.{All}
+use Rattle.vme_eval.specs.Recording.{Agrees}
 use Rattle.vme_eval.specs.Cycles.{cycles, read_modify_write, write_then_read, two_writes, read_write_write}
 use Rattle.vme_eval.specs.Cycles.{answer_as_the_cycle_starts_counts, block_read, block_turns}
 use Rattle.vme_eval.specs.Cycles.{block_turns_from_write_to_read, free_cycle, free_cycle_reads_writes_and_reads}
@@ -60,8 +62,8 @@ unfolding everything rows acknowledge_line_rises_as_the_cycle_starts
 acknowledge_line_rises_as_the_cycle_starts_agrees = record { well_formed = refl; verdict = refl; rows = refl }
 
 -- all recordings of `cycles` have the verdict and the rows that stand beside them
-pub cycles_agree : AllAgree cycles
-cycles_agree = (
+pub cycles_agree : All Agrees cycles
+cycles_agree = All-from_recursion Agrees cycles (
   read_modify_write_agrees,
   (
     write_then_read_agrees,

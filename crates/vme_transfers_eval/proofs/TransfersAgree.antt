@@ -1,6 +1,8 @@
 -- Each recording of `transfers` has, by the definitions, the verdict and the rows that stand beside it: computed.
 use Rattle.std.proofs.Common.{refl}
-use Rattle.vme_eval.specs.Recording.{Agrees, AllAgree}
+use Rattle.std.proofs.lemmas.List.Elements.{All-from_recursion}
+use Rattle.std.specs.Prelude.{All}
+use Rattle.vme_eval.specs.Recording.{Agrees}
 use Rattle.vme_eval.specs.Transfers.{transfers, read_cycle, read_cycle_from_idle, pipelined_cycles, bus_error}
 use Rattle.vme_eval.specs.Transfers.{starts_before_the_answer_rose, answer_rises_as_the_next_transfer_starts}
 use Rattle.vme_eval.specs.Transfers.{strobes_rise_early, strobes_rise_with_answer, one_strobe_rises_early}
@@ -123,8 +125,8 @@ unfolding everything rows transfer_between_two_cycles
 transfer_between_two_cycles_agrees = record { well_formed = refl; verdict = refl; rows = refl }
 
 -- all recordings of `transfers` have the verdict and the rows that stand beside them
-pub transfers_agree : AllAgree transfers
-transfers_agree = (
+pub transfers_agree : All Agrees transfers
+transfers_agree = All-from_recursion Agrees transfers (
   read_cycle_agrees,
   (
     read_cycle_from_idle_agrees,

@@ -11,10 +11,10 @@
 //! Nothing is said of other recordings. Start reading at the law of interest.
 #![tactic(auto)]
 
-ghost use Rattle.std.specs.Prelude.{◌≡◌, ◌∷◌, []};
+ghost use Rattle.std.specs.Prelude.{◌≡◌, ◌∷◌, [], All};
 ghost use Rattle.vme_trace.specs.LineNumbers.{IACK};
 ghost use Rattle.vme_trace.specs.declared.level.Level.TheVariants.{Low, Unknown};
-ghost use Rattle.vme_eval.specs.Recording.{AllAgree};
+ghost use Rattle.vme_eval.specs.Recording.{Agrees};
 ghost use Rattle.vme_eval.specs.Transfers.{transfers};
 ghost use Rattle.vme_eval.specs.Cycles.{cycles};
 ghost use Rattle.vme_eval.specs.Tables.{codes_that, control_lines, high_but, high_lines, is_block_transfer};
@@ -40,10 +40,10 @@ pub fn tables()
 
 /// Transfers, answers and the address strobe.
 pub fn transfers()
-    ensures { AllAgree transfers }
+    ensures { All Agrees transfers }
 {}
 
 /// Classes of cycles, and cycles of several transfers.
 pub fn cycles()
-    ensures { AllAgree cycles }
+    ensures { All Agrees cycles }
 {}
