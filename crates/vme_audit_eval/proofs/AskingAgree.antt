@@ -4,6 +4,7 @@ use Rattle.std.proofs.Common.{refl}
 use Rattle.std.proofs.lemmas.List.Elements.{All-from_recursion}
 use Rattle.std.specs.Prelude.{All}
 use Rattle.vme_eval.proofs.Everything.{everything}
+use Rattle.vme_eval.proofs.Facts.{◌&◌}
 use Rattle.vme_audit_eval.proofs.Computing.{asked}
 use Rattle.vme_audit_eval.specs.Audited.{AskingAgrees}
 use Rattle.vme_audit_eval.specs.Asking.{never_idle, idle, strobe_rises_at_the_start, cycle_starts, cycle_ends}
@@ -190,130 +191,16 @@ acknowledge_is_asked_for_agrees = record { well_formed = refl; asked = refl }
 
 -- each recording of `asking` is well formed, and asks the rules that stand beside it
 pub asking_agrees : All AskingAgrees asking
-asking_agrees = All-from_recursion AskingAgrees asking (
-  never_idle_agrees,
-  (
-    idle_agrees,
-    (
-      strobe_rises_at_the_start_agrees,
-      (
-        cycle_starts_agrees,
-        (
-          cycle_ends_agrees,
-          (
-            cycle_starts_with_a_reset_agrees,
-            (
-              cycle_starts_after_a_reset_agrees,
-              (
-                transfer_starts_agrees,
-                (
-                  transfer_starts_by_both_agrees,
-                  (
-                    write_starts_agrees,
-                    (
-                      write_after_a_read_starts_agrees,
-                      (
-                        strobe_rises_agrees,
-                        (
-                          second_strobe_rises_agrees,
-                          (
-                            second_strobe_falls_agrees,
-                            (
-                              answer_falls_agrees,
-                              (
-                                bus_error_falls_agrees,
-                                (
-                                  answer_falls_with_a_reset_agrees,
-                                  (
-                                    answer_rises_at_the_start_agrees,
-                                    (
-                                      cycle_starts_after_a_break_agrees,
-                                      (
-                                        cycle_starts_in_the_next_part_agrees,
-                                        (
-                                          transfer_is_answered_agrees,
-                                          (
-                                            answer_rises_agrees,
-                                            (
-                                              bus_error_rises_agrees,
-                                              (
-                                                two_of_a_single_cycle_agrees,
-                                                (
-                                                  two_of_a_block_cycle_agrees,
-                                                  (
-                                                    two_of_a_free_cycle_agrees,
-                                                    (
-                                                      two_of_an_acknowledge_cycle_agrees,
-                                                      (
-                                                        one_of_a_block_cycle_agrees,
-                                                        (
-                                                          one_of_an_acknowledge_cycle_agrees,
-                                                          (
-                                                            unanswered_acknowledge_agrees,
-                                                            (
-                                                              two_of_two_cycles_agrees,
-                                                              (
-                                                                level_is_requested_agrees,
-                                                                (
-                                                                  level_is_granted_agrees,
-                                                                  (
-                                                                    grant_is_passed_on_agrees,
-                                                                    (
-                                                                      arbiter_ends_its_grant_agrees,
-                                                                      (
-                                                                        slot_ends_its_grant_agrees,
-                                                                        (
-                                                                          slot_grants_agrees,
-                                                                          (
-                                                                            bus_is_taken_agrees,
-                                                                            (
-                                                                              bus_is_let_go_agrees,
-                                                                              (
-                                                                                slot_acknowledges_agrees,
-                                                                                (
-                                                                                  last_slot_acknowledges_agrees,
-                                                                                  (
-                                                                                    acknowledge_is_asked_for_agrees,
-                                                                                    tt,
-                                                                                  ),
-                                                                                ),
-                                                                              ),
-                                                                            ),
-                                                                          ),
-                                                                        ),
-                                                                      ),
-                                                                    ),
-                                                                  ),
-                                                                ),
-                                                              ),
-                                                            ),
-                                                          ),
-                                                        ),
-                                                      ),
-                                                    ),
-                                                  ),
-                                                ),
-                                              ),
-                                            ),
-                                          ),
-                                        ),
-                                      ),
-                                    ),
-                                  ),
-                                ),
-                              ),
-                            ),
-                          ),
-                        ),
-                      ),
-                    ),
-                  ),
-                ),
-              ),
-            ),
-          ),
-        ),
-      ),
-    ),
-  ),
-)
+asking_agrees = All-from_recursion AskingAgrees asking
+    (never_idle_agrees & idle_agrees & strobe_rises_at_the_start_agrees & cycle_starts_agrees & cycle_ends_agrees
+    & cycle_starts_with_a_reset_agrees & cycle_starts_after_a_reset_agrees & transfer_starts_agrees
+    & transfer_starts_by_both_agrees & write_starts_agrees & write_after_a_read_starts_agrees & strobe_rises_agrees
+    & second_strobe_rises_agrees & second_strobe_falls_agrees & answer_falls_agrees & bus_error_falls_agrees
+    & answer_falls_with_a_reset_agrees & answer_rises_at_the_start_agrees & cycle_starts_after_a_break_agrees
+    & cycle_starts_in_the_next_part_agrees & transfer_is_answered_agrees & answer_rises_agrees & bus_error_rises_agrees
+    & two_of_a_single_cycle_agrees & two_of_a_block_cycle_agrees & two_of_a_free_cycle_agrees
+    & two_of_an_acknowledge_cycle_agrees & one_of_a_block_cycle_agrees & one_of_an_acknowledge_cycle_agrees
+    & unanswered_acknowledge_agrees & two_of_two_cycles_agrees & level_is_requested_agrees & level_is_granted_agrees
+    & grant_is_passed_on_agrees & arbiter_ends_its_grant_agrees & slot_ends_its_grant_agrees & slot_grants_agrees
+    & bus_is_taken_agrees & bus_is_let_go_agrees & slot_acknowledges_agrees & last_slot_acknowledges_agrees
+    & acknowledge_is_asked_for_agrees & tt)

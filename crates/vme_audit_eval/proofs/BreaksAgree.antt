@@ -4,6 +4,7 @@ use Rattle.std.proofs.Common.{refl}
 use Rattle.std.proofs.lemmas.List.Elements.{All-from_recursion}
 use Rattle.std.specs.Prelude.{All}
 use Rattle.vme_eval.proofs.Everything.{everything, rows}
+use Rattle.vme_eval.proofs.Facts.{◌&◌}
 use Rattle.vme_audit_eval.proofs.Computing.{audits}
 use Rattle.vme_audit_eval.specs.Audited.{AuditAgrees}
 use Rattle.vme_audit_eval.specs.Breaks.{two_stray_answers, one_of_two_allowed, both_allowed_by_line}
@@ -141,49 +142,9 @@ cycle_cut_off_at_its_start_agrees = record {
 -- each recording of `several_breaks` is well formed, and its audit has the starts, breaks, counts and outcome that
 -- stand beside it
 pub several_breaks_agree : All AuditAgrees several_breaks
-several_breaks_agree = All-from_recursion AuditAgrees several_breaks (
-  two_stray_answers_agrees,
-  (
-    one_of_two_allowed_agrees,
-    (
-      both_allowed_by_line_agrees,
-      (
-        both_allowed_by_rule_agrees,
-        (
-          another_rule_allowed_agrees,
-          (
-            stray_answer_before_an_idle_instant_agrees,
-            (
-              break_at_an_idle_instant_agrees,
-              (
-                break_at_the_next_instant_agrees,
-                (
-                  two_breaks_at_one_instant_agrees,
-                  (
-                    break_after_a_lost_strobe_agrees,
-                    (
-                      lost_strobe_alone_agrees,
-                      (
-                        nothing_judged_while_lost_agrees,
-                        (
-                          resets_between_agrees,
-                          (
-                            break_in_the_last_step_agrees,
-                            (
-                              idle_break_in_the_last_step_agrees,
-                              (cycle_cut_off_at_its_start_agrees, tt),
-                            ),
-                          ),
-                        ),
-                      ),
-                    ),
-                  ),
-                ),
-              ),
-            ),
-          ),
-        ),
-      ),
-    ),
-  ),
-)
+several_breaks_agree = All-from_recursion AuditAgrees several_breaks
+    (two_stray_answers_agrees & one_of_two_allowed_agrees & both_allowed_by_line_agrees & both_allowed_by_rule_agrees
+    & another_rule_allowed_agrees & stray_answer_before_an_idle_instant_agrees & break_at_an_idle_instant_agrees
+    & break_at_the_next_instant_agrees & two_breaks_at_one_instant_agrees & break_after_a_lost_strobe_agrees
+    & lost_strobe_alone_agrees & nothing_judged_while_lost_agrees & resets_between_agrees
+    & break_in_the_last_step_agrees & idle_break_in_the_last_step_agrees & cycle_cut_off_at_its_start_agrees & tt)

@@ -4,6 +4,7 @@ use Rattle.std.proofs.Common.{refl}
 use Rattle.std.proofs.lemmas.List.Elements.{All-from_recursion}
 use Rattle.std.specs.Prelude.{All}
 use Rattle.vme_eval.proofs.Everything.{everything, rows}
+use Rattle.vme_eval.proofs.Facts.{◌&◌}
 use Rattle.vme_audit_eval.proofs.Computing.{audits}
 use Rattle.vme_audit_eval.specs.Audited.{AuditAgrees}
 use Rattle.vme_audit_eval.specs.Coverage.{nothing_known, idle_and_nothing_wanted, idle_and_one_wanted, read_in_a_tenure}
@@ -144,61 +145,10 @@ stopped_nowhere_agrees = record { well_formed = refl; starts = refl; breaks = re
 -- each recording of `coverage` is well formed, and its audit has the starts, breaks, counts and outcome that stand
 -- beside it
 pub coverage_agrees : All AuditAgrees coverage
-coverage_agrees = All-from_recursion AuditAgrees coverage (
-  nothing_known_agrees,
-  (
-    idle_and_nothing_wanted_agrees,
-    (
-      idle_and_one_wanted_agrees,
-      (
-        read_in_a_tenure_agrees,
-        (
-          one_answer_of_two_agrees,
-          (
-            tenure_cut_off_agrees,
-            (
-              bus_error_to_a_write_agrees,
-              (
-                free_cycles_agrees,
-                (
-                  interrupt_acknowledge_agrees,
-                  (
-                    bus_hangs_agrees,
-                    (
-                      bus_hangs_and_one_wanted_agrees,
-                      (
-                        hang_that_is_reset_agrees,
-                        (
-                          hang_after_a_reset_agrees,
-                          (
-                            hang_after_a_break_agrees,
-                            (
-                              transfer_cut_off_agrees,
-                              (
-                                broken_and_not_covered_agrees,
-                                (
-                                  unreadable_and_not_covered_agrees,
-                                  (
-                                    never_idle_and_one_wanted_agrees,
-                                    (
-                                      stopped_at_the_first_agrees,
-                                      (stopped_at_the_second_agrees, (stopped_nowhere_agrees, tt)),
-                                    ),
-                                  ),
-                                ),
-                              ),
-                            ),
-                          ),
-                        ),
-                      ),
-                    ),
-                  ),
-                ),
-              ),
-            ),
-          ),
-        ),
-      ),
-    ),
-  ),
-)
+coverage_agrees = All-from_recursion AuditAgrees coverage
+    (nothing_known_agrees & idle_and_nothing_wanted_agrees & idle_and_one_wanted_agrees & read_in_a_tenure_agrees
+    & one_answer_of_two_agrees & tenure_cut_off_agrees & bus_error_to_a_write_agrees & free_cycles_agrees
+    & interrupt_acknowledge_agrees & bus_hangs_agrees & bus_hangs_and_one_wanted_agrees & hang_that_is_reset_agrees
+    & hang_after_a_reset_agrees & hang_after_a_break_agrees & transfer_cut_off_agrees & broken_and_not_covered_agrees
+    & unreadable_and_not_covered_agrees & never_idle_and_one_wanted_agrees & stopped_at_the_first_agrees
+    & stopped_at_the_second_agrees & stopped_nowhere_agrees & tt)

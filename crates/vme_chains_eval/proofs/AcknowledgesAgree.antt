@@ -16,6 +16,7 @@ use Rattle.vme_eval.specs.Acknowledges.{acknowledge_after_a_bus_error, acknowled
 use Rattle.vme_eval.specs.Acknowledges.{acknowledge_write, acknowledge_turns_to_a_read}
 use Rattle.vme_eval.specs.Acknowledges.{acknowledge_is_a_read_from_its_start, acknowledged_twice}
 use Rattle.vme_eval.proofs.Everything.{everything, rows}
+use Rattle.vme_eval.proofs.Facts.{◌&◌}
 
 pub acknowledge_cycle_agrees : Agrees acknowledge_cycle
 unfolding everything rows acknowledge_cycle
@@ -111,70 +112,14 @@ acknowledged_twice_agrees = record { well_formed = refl; verdict = refl; rows = 
 
 -- all recordings of `acknowledges` have the verdict and the rows that stand beside them
 pub acknowledges_agree : All Agrees acknowledges
-acknowledges_agree = All-from_recursion Agrees acknowledges (
-  acknowledge_cycle_agrees,
-  (
-    acknowledge_of_level_3_agrees,
-    (
-      acknowledge_skips_slot_agrees,
-      (
-        acknowledge_outside_an_acknowledge_cycle_agrees,
-        (
-          acknowledge_with_its_input_agrees,
-          (
-            acknowledge_as_its_input_rises_agrees,
-            (
-              acknowledge_before_strobe_agrees,
-              (
-                acknowledge_before_the_cycle_agrees,
-                (
-                  acknowledge_by_the_second_strobe_agrees,
-                  (
-                    acknowledge_as_the_strobe_rises_agrees,
-                    (
-                      acknowledge_as_the_second_strobe_rises_agrees,
-                      (
-                        acknowledge_as_the_second_strobe_falls_agrees,
-                        (
-                          acknowledge_near_a_strobe_and_near_the_cycle_agrees,
-                          (
-                            acknowledge_after_answer_agrees,
-                            (
-                              acknowledge_after_an_answer_at_the_start_agrees,
-                              (
-                                acknowledge_after_the_answer_of_a_data_cycle_agrees,
-                                (
-                                  acknowledge_with_the_answer_agrees,
-                                  (
-                                    acknowledge_after_a_bus_error_agrees,
-                                    (
-                                      acknowledge_as_the_next_cycle_starts_agrees,
-                                      (
-                                        acknowledge_write_agrees,
-                                        (
-                                          acknowledge_turns_to_a_read_agrees,
-                                          (
-                                            acknowledge_is_a_read_from_its_start_agrees,
-                                            (acknowledged_twice_agrees, tt),
-                                          ),
-                                        ),
-                                      ),
-                                    ),
-                                  ),
-                                ),
-                              ),
-                            ),
-                          ),
-                        ),
-                      ),
-                    ),
-                  ),
-                ),
-              ),
-            ),
-          ),
-        ),
-      ),
-    ),
-  ),
-)
+acknowledges_agree = All-from_recursion Agrees acknowledges
+    (acknowledge_cycle_agrees & acknowledge_of_level_3_agrees & acknowledge_skips_slot_agrees
+    & acknowledge_outside_an_acknowledge_cycle_agrees & acknowledge_with_its_input_agrees
+    & acknowledge_as_its_input_rises_agrees & acknowledge_before_strobe_agrees & acknowledge_before_the_cycle_agrees
+    & acknowledge_by_the_second_strobe_agrees & acknowledge_as_the_strobe_rises_agrees
+    & acknowledge_as_the_second_strobe_rises_agrees & acknowledge_as_the_second_strobe_falls_agrees
+    & acknowledge_near_a_strobe_and_near_the_cycle_agrees & acknowledge_after_answer_agrees
+    & acknowledge_after_an_answer_at_the_start_agrees & acknowledge_after_the_answer_of_a_data_cycle_agrees
+    & acknowledge_with_the_answer_agrees & acknowledge_after_a_bus_error_agrees
+    & acknowledge_as_the_next_cycle_starts_agrees & acknowledge_write_agrees & acknowledge_turns_to_a_read_agrees
+    & acknowledge_is_a_read_from_its_start_agrees & acknowledged_twice_agrees & tt)

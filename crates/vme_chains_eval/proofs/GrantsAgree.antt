@@ -12,6 +12,7 @@ use Rattle.vme_eval.specs.Grants.{grant_falls_as_the_bus_is_let_go, grant_unaske
 use Rattle.vme_eval.specs.Grants.{request_low_at_the_start, request_of_the_grant_before_serves_again}
 use Rattle.vme_eval.specs.Grants.{request_before_another_levels_grant, request_of_two_grants_before, grant_withdrawn}
 use Rattle.vme_eval.proofs.Everything.{everything, rows}
+use Rattle.vme_eval.proofs.Facts.{◌&◌}
 
 pub slot_grants_ungranted_agrees : Agrees slot_grants_ungranted
 unfolding everything rows slot_grants_ungranted
@@ -91,58 +92,11 @@ grant_withdrawn_agrees = record { well_formed = refl; verdict = refl; rows = ref
 
 -- all recordings of `grants` have the verdict and the rows that stand beside them
 pub grants_agree : All Agrees grants
-grants_agree = All-from_recursion Agrees grants (
-  slot_grants_ungranted_agrees,
-  (
-    slot_grants_with_its_input_agrees,
-    (
-      slot_grants_as_its_input_rises_agrees,
-      (
-        slot_ends_its_grant_early_agrees,
-        (
-          slot_ends_its_grant_as_its_input_falls_agrees,
-          (
-            second_level_granted_agrees,
-            (
-              higher_level_granted_second_agrees,
-              (
-                two_levels_granted_at_once_agrees,
-                (
-                  another_level_granted_as_the_first_ends_agrees,
-                  (
-                    grant_while_busy_agrees,
-                    (
-                      slot_grants_while_busy_agrees,
-                      (
-                        grant_falls_as_the_bus_is_let_go_agrees,
-                        (
-                          grant_unasked_agrees,
-                          (
-                            request_with_the_grant_agrees,
-                            (
-                              request_low_at_the_start_agrees,
-                              (
-                                request_of_the_grant_before_serves_again_agrees,
-                                (
-                                  request_before_another_levels_grant_agrees,
-                                  (
-                                    request_of_two_grants_before_agrees,
-                                    (grant_withdrawn_agrees, tt),
-                                  ),
-                                ),
-                              ),
-                            ),
-                          ),
-                        ),
-                      ),
-                    ),
-                  ),
-                ),
-              ),
-            ),
-          ),
-        ),
-      ),
-    ),
-  ),
-)
+grants_agree = All-from_recursion Agrees grants
+    (slot_grants_ungranted_agrees & slot_grants_with_its_input_agrees & slot_grants_as_its_input_rises_agrees
+    & slot_ends_its_grant_early_agrees & slot_ends_its_grant_as_its_input_falls_agrees & second_level_granted_agrees
+    & higher_level_granted_second_agrees & two_levels_granted_at_once_agrees
+    & another_level_granted_as_the_first_ends_agrees & grant_while_busy_agrees & slot_grants_while_busy_agrees
+    & grant_falls_as_the_bus_is_let_go_agrees & grant_unasked_agrees & request_with_the_grant_agrees
+    & request_low_at_the_start_agrees & request_of_the_grant_before_serves_again_agrees
+    & request_before_another_levels_grant_agrees & request_of_two_grants_before_agrees & grant_withdrawn_agrees & tt)

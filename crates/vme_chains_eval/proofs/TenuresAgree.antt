@@ -14,6 +14,7 @@ use Rattle.vme_eval.specs.Tenures.{cycle_starts_as_the_bus_is_taken, cycle_start
 use Rattle.vme_eval.specs.Tenures.{everything_starts_at_one_instant, grant_past_last_slot}
 use Rattle.vme_eval.specs.Tenures.{past_the_last_slot_as_the_grant_ends}
 use Rattle.vme_eval.proofs.Everything.{everything, rows}
+use Rattle.vme_eval.proofs.Facts.{◌&◌}
 
 pub tenure_on_level_0_agrees : Agrees tenure_on_level_0
 unfolding everything rows tenure_on_level_0
@@ -113,76 +114,13 @@ past_the_last_slot_as_the_grant_ends_agrees = record { well_formed = refl; verdi
 
 -- all recordings of `tenures` have the verdict and the rows that stand beside them
 pub tenures_agree : All Agrees tenures
-tenures_agree = All-from_recursion Agrees tenures (
-  tenure_on_level_0_agrees,
-  (
-    tenure_on_level_1_agrees,
-    (
-      tenure_on_level_2_agrees,
-      (
-        taken_by_the_last_slot_agrees,
-        (
-          open_tenure_ends_agrees,
-          (
-            tenure_after_an_open_one_agrees,
-            (
-              two_tenures_agrees,
-              (
-                grant_read_at_the_instant_before_agrees,
-                (
-                  slot_read_as_the_bus_is_taken_agrees,
-                  (
-                    another_levels_grant_taken_agrees,
-                    (
-                      higher_levels_grant_taken_agrees,
-                      (
-                        grant_chain_with_a_gap_agrees,
-                        (
-                          bus_taken_ungranted_agrees,
-                          (
-                            taken_by_a_slots_grant_alone_agrees,
-                            (
-                              grant_taken_twice_agrees,
-                              (
-                                grant_of_the_same_instant_taken_twice_agrees,
-                                (
-                                  taken_again_by_a_slots_grant_agrees,
-                                  (
-                                    third_tenure_without_a_grant_agrees,
-                                    (
-                                      cycle_without_the_bus_agrees,
-                                      (
-                                        cycle_starts_as_the_bus_is_taken_agrees,
-                                        (
-                                          cycle_starts_as_the_bus_is_let_go_agrees,
-                                          (
-                                            everything_starts_at_one_instant_agrees,
-                                            (
-                                              grant_past_last_slot_agrees,
-                                              (
-                                                past_the_last_slot_as_the_grant_ends_agrees,
-                                                tt,
-                                              ),
-                                            ),
-                                          ),
-                                        ),
-                                      ),
-                                    ),
-                                  ),
-                                ),
-                              ),
-                            ),
-                          ),
-                        ),
-                      ),
-                    ),
-                  ),
-                ),
-              ),
-            ),
-          ),
-        ),
-      ),
-    ),
-  ),
-)
+tenures_agree = All-from_recursion Agrees tenures
+    (tenure_on_level_0_agrees & tenure_on_level_1_agrees & tenure_on_level_2_agrees & taken_by_the_last_slot_agrees
+    & open_tenure_ends_agrees & tenure_after_an_open_one_agrees & two_tenures_agrees
+    & grant_read_at_the_instant_before_agrees & slot_read_as_the_bus_is_taken_agrees & another_levels_grant_taken_agrees
+    & higher_levels_grant_taken_agrees & grant_chain_with_a_gap_agrees & bus_taken_ungranted_agrees
+    & taken_by_a_slots_grant_alone_agrees & grant_taken_twice_agrees & grant_of_the_same_instant_taken_twice_agrees
+    & taken_again_by_a_slots_grant_agrees & third_tenure_without_a_grant_agrees & cycle_without_the_bus_agrees
+    & cycle_starts_as_the_bus_is_taken_agrees & cycle_starts_as_the_bus_is_let_go_agrees
+    & everything_starts_at_one_instant_agrees & grant_past_last_slot_agrees
+    & past_the_last_slot_as_the_grant_ends_agrees & tt)

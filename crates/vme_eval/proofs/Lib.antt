@@ -1,1 +1,2 @@
 pub mod Everything
+pub mod Facts

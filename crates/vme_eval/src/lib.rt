@@ -11,6 +11,7 @@
 //! - `specs/Tables`: modifier codes, control lines and needed lines.
 //! - Each other module of `specs/`: the recordings on one matter. It ends in the list of them.
 //! - `proofs/Everything`: what has to unfold for a verdict and the rows of a listing to compute.
+//! - `proofs/Facts`: how the facts of a list of recordings are put together.
 //!
 //! # What is proved
 //!

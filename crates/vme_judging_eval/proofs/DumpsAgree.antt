@@ -7,6 +7,7 @@ use Rattle.vme_eval.specs.Dumps.{dumps, dumped_read, dumped_nothing, dumped_stra
 use Rattle.vme_eval.specs.Dumps.{dumped_gap, strobe_lost_at_once, answer_low_before_judging}
 use Rattle.vme_eval.specs.Dumps.{address_lost_between_cycles, earlier_break_of_a_later_rule}
 use Rattle.vme_eval.proofs.Everything.{everything, rows}
+use Rattle.vme_eval.proofs.Facts.{◌&◌}
 
 pub dumped_read_agrees : Agrees dumped_read
 unfolding everything rows dumped_read
@@ -45,28 +46,7 @@ unfolding everything rows earlier_break_of_a_later_rule
 earlier_break_of_a_later_rule_agrees = record { well_formed = refl; verdict = refl; rows = refl }
 
 pub dumps_agree : All Agrees dumps
-dumps_agree = All-from_recursion Agrees dumps (
-  dumped_read_agrees,
-  (
-    dumped_nothing_agrees,
-    (
-      dumped_stray_answer_agrees,
-      (
-        dumped_unknown_strobe_agrees,
-        (
-          dumped_gap_agrees,
-          (
-            strobe_lost_at_once_agrees,
-            (
-              answer_low_before_judging_agrees,
-              (
-                address_lost_between_cycles_agrees,
-                (earlier_break_of_a_later_rule_agrees, tt),
-              ),
-            ),
-          ),
-        ),
-      ),
-    ),
-  ),
-)
+dumps_agree = All-from_recursion Agrees dumps
+    (dumped_read_agrees & dumped_nothing_agrees & dumped_stray_answer_agrees & dumped_unknown_strobe_agrees
+    & dumped_gap_agrees & strobe_lost_at_once_agrees & answer_low_before_judging_agrees
+    & address_lost_between_cycles_agrees & earlier_break_of_a_later_rule_agrees & tt)

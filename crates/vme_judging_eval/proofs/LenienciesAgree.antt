@@ -10,6 +10,7 @@ use Rattle.vme_eval.specs.Leniencies.{modifier_changes_in_a_block, write_after_t
 use Rattle.vme_eval.specs.Leniencies.{strobe_long_before_the_cycle, acknowledge_of_level_0}
 use Rattle.vme_eval.specs.Leniencies.{grant_taken_after_the_request, answer_and_direction_after_one_strobe}
 use Rattle.vme_eval.proofs.Everything.{everything, rows}
+use Rattle.vme_eval.proofs.Facts.{◌&◌}
 
 pub chain_net_left_low_agrees : Agrees chain_net_left_low
 unfolding everything rows chain_net_left_low
@@ -61,37 +62,9 @@ answer_and_direction_after_one_strobe_agrees = record { well_formed = refl; verd
 
 -- all recordings of `leniencies` have the verdict and the rows that stand beside them
 pub leniencies_agree : All Agrees leniencies
-leniencies_agree = All-from_recursion Agrees leniencies (
-  chain_net_left_low_agrees,
-  (
-    acknowledge_net_left_low_agrees,
-    (
-      acknowledge_passed_on_twice_agrees,
-      (
-        read_modify_write_at_two_addresses_agrees,
-        (
-          read_modify_write_of_two_sizes_agrees,
-          (
-            block_of_long_words_without_its_long_word_line_agrees,
-            (
-              modifier_changes_in_a_block_agrees,
-              (
-                write_after_the_bus_error_of_the_read_agrees,
-                (
-                  strobe_long_before_the_cycle_agrees,
-                  (
-                    acknowledge_of_level_0_agrees,
-                    (
-                      grant_taken_after_the_request_agrees,
-                      (answer_and_direction_after_one_strobe_agrees, tt),
-                    ),
-                  ),
-                ),
-              ),
-            ),
-          ),
-        ),
-      ),
-    ),
-  ),
-)
+leniencies_agree = All-from_recursion Agrees leniencies
+    (chain_net_left_low_agrees & acknowledge_net_left_low_agrees & acknowledge_passed_on_twice_agrees
+    & read_modify_write_at_two_addresses_agrees & read_modify_write_of_two_sizes_agrees
+    & block_of_long_words_without_its_long_word_line_agrees & modifier_changes_in_a_block_agrees
+    & write_after_the_bus_error_of_the_read_agrees & strobe_long_before_the_cycle_agrees & acknowledge_of_level_0_agrees
+    & grant_taken_after_the_request_agrees & answer_and_direction_after_one_strobe_agrees & tt)

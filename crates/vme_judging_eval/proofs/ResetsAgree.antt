@@ -19,6 +19,7 @@ use Rattle.vme_eval.specs.Resets.{bus_taken_as_judging_starts_again, open_tenure
 use Rattle.vme_eval.specs.Resets.{everything_ends_at_the_reset, tenure_ends_at_the_reset}
 use Rattle.vme_eval.specs.Resets.{unreadable_after_a_break_before_the_reset}
 use Rattle.vme_eval.proofs.Everything.{everything, rows}
+use Rattle.vme_eval.proofs.Facts.{◌&◌}
 
 pub reset_in_a_read_agrees : Agrees reset_in_a_read
 unfolding everything rows reset_in_a_read
@@ -158,106 +159,18 @@ unreadable_after_a_break_before_the_reset_agrees = record { well_formed = refl; 
 
 -- all recordings of `resets` have the verdict and the rows that stand beside them
 pub resets_agree : All Agrees resets
-resets_agree = All-from_recursion Agrees resets (
-  reset_in_a_read_agrees,
-  (
-    busy_after_the_reset_agrees,
-    (
-      answer_after_the_reset_agrees,
-      (
-        strobe_lost_with_the_reset_agrees,
-        (
-          reset_line_lost_agrees,
-          (
-            reset_forgets_a_request_agrees,
-            (
-              request_without_a_reset_agrees,
-              (
-                reset_for_good_agrees,
-                (
-                  reset_before_judging_agrees,
-                  (
-                    reset_at_the_end_agrees,
-                    (
-                      two_resets_agrees,
-                      (
-                        stray_answer_with_the_reset_agrees,
-                        (
-                          stray_answers_around_the_reset_agrees,
-                          (
-                            strobe_unknown_after_the_reset_agrees,
-                            (
-                              strobe_lost_after_the_reset_agrees,
-                              (
-                                reset_after_a_lost_strobe_agrees,
-                                (
-                                  address_changes_after_the_reset_agrees,
-                                  (
-                                    address_changes_after_a_lost_strobe_agrees,
-                                    (
-                                      direction_changes_after_the_reset_agrees,
-                                      (
-                                        direction_changes_after_lost_strobes_agrees,
-                                        (
-                                          data_changes_after_the_reset_agrees,
-                                          (
-                                            read_after_the_reset_of_a_write_agrees,
-                                            (
-                                              answer_withdrawn_in_the_reset_agrees,
-                                              (
-                                                answer_withdrawn_early_after_the_reset_agrees,
-                                                (
-                                                  answer_in_the_reset_agrees,
-                                                  (
-                                                    block_write_after_the_reset_of_a_block_read_agrees,
-                                                    (
-                                                      bus_granted_again_after_the_reset_agrees,
-                                                      (
-                                                        grant_taken_twice_after_the_reset_agrees,
-                                                        (
-                                                          grant_before_the_reset_taken_agrees,
-                                                          (
-                                                            bus_taken_as_judging_starts_again_agrees,
-                                                            (
-                                                              open_tenure_ends_in_the_reset_agrees,
-                                                              (
-                                                                everything_ends_at_the_reset_agrees,
-                                                                (
-                                                                  tenure_ends_at_the_reset_agrees,
-                                                                  (
-                                                                    unreadable_after_a_break_before_the_reset_agrees,
-                                                                    tt,
-                                                                  ),
-                                                                ),
-                                                              ),
-                                                            ),
-                                                          ),
-                                                        ),
-                                                      ),
-                                                    ),
-                                                  ),
-                                                ),
-                                              ),
-                                            ),
-                                          ),
-                                        ),
-                                      ),
-                                    ),
-                                  ),
-                                ),
-                              ),
-                            ),
-                          ),
-                        ),
-                      ),
-                    ),
-                  ),
-                ),
-              ),
-            ),
-          ),
-        ),
-      ),
-    ),
-  ),
-)
+resets_agree = All-from_recursion Agrees resets
+    (reset_in_a_read_agrees & busy_after_the_reset_agrees & answer_after_the_reset_agrees
+    & strobe_lost_with_the_reset_agrees & reset_line_lost_agrees & reset_forgets_a_request_agrees
+    & request_without_a_reset_agrees & reset_for_good_agrees & reset_before_judging_agrees & reset_at_the_end_agrees
+    & two_resets_agrees & stray_answer_with_the_reset_agrees & stray_answers_around_the_reset_agrees
+    & strobe_unknown_after_the_reset_agrees & strobe_lost_after_the_reset_agrees & reset_after_a_lost_strobe_agrees
+    & address_changes_after_the_reset_agrees & address_changes_after_a_lost_strobe_agrees
+    & direction_changes_after_the_reset_agrees & direction_changes_after_lost_strobes_agrees
+    & data_changes_after_the_reset_agrees & read_after_the_reset_of_a_write_agrees
+    & answer_withdrawn_in_the_reset_agrees & answer_withdrawn_early_after_the_reset_agrees & answer_in_the_reset_agrees
+    & block_write_after_the_reset_of_a_block_read_agrees & bus_granted_again_after_the_reset_agrees
+    & grant_taken_twice_after_the_reset_agrees & grant_before_the_reset_taken_agrees
+    & bus_taken_as_judging_starts_again_agrees & open_tenure_ends_in_the_reset_agrees
+    & everything_ends_at_the_reset_agrees & tenure_ends_at_the_reset_agrees
+    & unreadable_after_a_break_before_the_reset_agrees & tt)

@@ -14,6 +14,7 @@ use Rattle.vme_eval.specs.SameInstant.{acknowledge_of_nothing, acknowledge_after
 use Rattle.vme_eval.specs.SameInstant.{acknowledge_with_a_second_write, second_acknowledge_is_a_write}
 use Rattle.vme_eval.specs.SameInstant.{address_and_data_unknown}
 use Rattle.vme_eval.proofs.Everything.{everything, rows}
+use Rattle.vme_eval.proofs.Facts.{◌&◌}
 
 pub modifier_and_direction_unknown_agrees : Agrees modifier_and_direction_unknown
 unfolding everything rows modifier_and_direction_unknown
@@ -89,55 +90,13 @@ address_and_data_unknown_agrees = record { well_formed = refl; verdict = refl; r
 
 -- all recordings of `same_instant` have the verdict and the rows that stand beside them
 pub same_instant_agree : All Agrees same_instant
-same_instant_agree = All-from_recursion Agrees same_instant (
-  modifier_and_direction_unknown_agrees,
-  (
-    direction_unknown_as_the_answer_is_low_agrees,
-    (
-      data_unknown_as_the_answer_is_low_agrees,
-      (
-        answered_again_as_the_answer_is_withdrawn_agrees,
-        (
-          address_and_direction_change_agrees,
-          (
-            direction_and_data_change_agrees,
-            (
-              direction_changes_with_a_second_answer_agrees,
-              (
-                block_turns_as_a_slot_grants_agrees,
-                (
-                  slot_grants_as_another_ends_its_grant_agrees,
-                  (
-                    slot_ends_its_grant_as_a_level_is_granted_agrees,
-                    (
-                      two_levels_granted_while_busy_agrees,
-                      (
-                        unasked_level_granted_while_busy_agrees,
-                        (
-                          past_the_last_slot_with_an_acknowledge_agrees,
-                          (
-                            acknowledge_of_nothing_agrees,
-                            (
-                              acknowledge_after_answer_and_strobe_agrees,
-                              (
-                                acknowledge_with_a_second_write_agrees,
-                                (
-                                  second_acknowledge_is_a_write_agrees,
-                                  (address_and_data_unknown_agrees, tt),
-                                ),
-                              ),
-                            ),
-                          ),
-                        ),
-                      ),
-                    ),
-                  ),
-                ),
-              ),
-            ),
-          ),
-        ),
-      ),
-    ),
-  ),
-)
+same_instant_agree = All-from_recursion Agrees same_instant
+    (modifier_and_direction_unknown_agrees & direction_unknown_as_the_answer_is_low_agrees
+    & data_unknown_as_the_answer_is_low_agrees & answered_again_as_the_answer_is_withdrawn_agrees
+    & address_and_direction_change_agrees & direction_and_data_change_agrees
+    & direction_changes_with_a_second_answer_agrees & block_turns_as_a_slot_grants_agrees
+    & slot_grants_as_another_ends_its_grant_agrees & slot_ends_its_grant_as_a_level_is_granted_agrees
+    & two_levels_granted_while_busy_agrees & unasked_level_granted_while_busy_agrees
+    & past_the_last_slot_with_an_acknowledge_agrees & acknowledge_of_nothing_agrees
+    & acknowledge_after_answer_and_strobe_agrees & acknowledge_with_a_second_write_agrees
+    & second_acknowledge_is_a_write_agrees & address_and_data_unknown_agrees & tt)

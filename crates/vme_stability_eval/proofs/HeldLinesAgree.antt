@@ -14,6 +14,7 @@ use Rattle.vme_eval.specs.HeldLines.{direction_changes_as_a_strobe_rises, level_
 use Rattle.vme_eval.specs.HeldLines.{acknowledge_line_changes, highest_modifier_line_changes}
 use Rattle.vme_eval.specs.HeldLines.{lowest_modifier_line_changes, long_word_line_changes, lowest_address_line_changes}
 use Rattle.vme_eval.proofs.Everything.{everything, rows}
+use Rattle.vme_eval.proofs.Facts.{◌&◌}
 
 pub short_address_agrees : Agrees short_address
 unfolding everything rows short_address
@@ -117,73 +118,13 @@ lowest_address_line_changes_agrees = record { well_formed = refl; verdict = refl
 
 -- all recordings of `held_lines` have the verdict and the rows that stand beside them
 pub held_lines_agree : All Agrees held_lines
-held_lines_agree = All-from_recursion Agrees held_lines (
-  short_address_agrees,
-  (
-    address_changes_early_agrees,
-    (
-      address_changes_with_answer_agrees,
-      (
-        unneeded_line_changes_agrees,
-        (
-          address_lost_in_the_cycle_agrees,
-          (
-            highest_address_line_changes_agrees,
-            (
-              address_changes_as_the_cycle_ends_agrees,
-              (
-                address_changes_after_an_answer_at_the_start_agrees,
-                (
-                  unknown_modifier_agrees,
-                  (
-                    floating_modifier_agrees,
-                    (
-                      address_lost_as_the_cycle_starts_agrees,
-                      (
-                        address_known_as_the_cycle_starts_agrees,
-                        (
-                          highest_address_line_unknown_agrees,
-                          (
-                            direction_unknown_agrees,
-                            (
-                              direction_known_as_the_transfer_starts_agrees,
-                              (
-                                direction_changes_as_the_transfer_starts_agrees,
-                                (
-                                  direction_changes_agrees,
-                                  (
-                                    direction_changes_after_the_answer_agrees,
-                                    (
-                                      direction_changes_as_a_strobe_rises_agrees,
-                                      (
-                                        level_of_an_acknowledge_changes_agrees,
-                                        (
-                                          acknowledge_line_changes_agrees,
-                                          (
-                                            highest_modifier_line_changes_agrees,
-                                            (
-                                              lowest_modifier_line_changes_agrees,
-                                              (long_word_line_changes_agrees, (lowest_address_line_changes_agrees, tt)),
-                                            ),
-                                          ),
-                                        ),
-                                      ),
-                                    ),
-                                  ),
-                                ),
-                              ),
-                            ),
-                          ),
-                        ),
-                      ),
-                    ),
-                  ),
-                ),
-              ),
-            ),
-          ),
-        ),
-      ),
-    ),
-  ),
-)
+held_lines_agree = All-from_recursion Agrees held_lines
+    (short_address_agrees & address_changes_early_agrees & address_changes_with_answer_agrees
+    & unneeded_line_changes_agrees & address_lost_in_the_cycle_agrees & highest_address_line_changes_agrees
+    & address_changes_as_the_cycle_ends_agrees & address_changes_after_an_answer_at_the_start_agrees
+    & unknown_modifier_agrees & floating_modifier_agrees & address_lost_as_the_cycle_starts_agrees
+    & address_known_as_the_cycle_starts_agrees & highest_address_line_unknown_agrees & direction_unknown_agrees
+    & direction_known_as_the_transfer_starts_agrees & direction_changes_as_the_transfer_starts_agrees
+    & direction_changes_agrees & direction_changes_after_the_answer_agrees & direction_changes_as_a_strobe_rises_agrees
+    & level_of_an_acknowledge_changes_agrees & acknowledge_line_changes_agrees & highest_modifier_line_changes_agrees
+    & lowest_modifier_line_changes_agrees & long_word_line_changes_agrees & lowest_address_line_changes_agrees & tt)

@@ -18,6 +18,7 @@ use Rattle.vme_eval.specs.WriteData.{second_byte_unknown_after_a_bus_error, high
 use Rattle.vme_eval.specs.WriteData.{data_unknown_in_an_acknowledge, data_unknown_with_lowest_address_line_low}
 use Rattle.vme_eval.specs.WriteData.{data_lost_with_a_bus_error}
 use Rattle.vme_eval.proofs.Everything.{everything, rows}
+use Rattle.vme_eval.proofs.Facts.{◌&◌}
 
 pub data_unknown_agrees : Agrees data_unknown
 unfolding everything rows data_unknown
@@ -161,106 +162,18 @@ data_lost_with_a_bus_error_agrees = record { well_formed = refl; verdict = refl;
 
 -- all recordings of `write_data` have the verdict and the rows that stand beside them
 pub write_data_agree : All Agrees write_data
-write_data_agree = All-from_recursion Agrees write_data (
-  data_unknown_agrees,
-  (
-    unmoved_data_unknown_agrees,
-    (
-      data_change_with_the_answer_agrees,
-      (
-        data_change_agrees,
-        (
-          unmoved_data_change_agrees,
-          (
-            data_of_a_read_agrees,
-            (
-              second_byte_unknown_agrees,
-              (
-                second_byte_unknown_with_the_answer_agrees,
-                (
-                  second_byte_unknown_after_the_answer_agrees,
-                  (
-                    upper_byte_alone_agrees,
-                    (
-                      second_byte_changes_agrees,
-                      (
-                        data_lost_agrees,
-                        (
-                          data_change_after_the_answer_agrees,
-                          (
-                            long_word_agrees,
-                            (
-                              long_word_unknown_agrees,
-                              (
-                                long_word_changes_agrees,
-                                (
-                                  no_long_word_at_an_odd_word_agrees,
-                                  (
-                                    lanes_unknown_agrees,
-                                    (
-                                      answered_as_it_starts_agrees,
-                                      (
-                                        byte_lost_as_the_second_strobe_falls_agrees,
-                                        (
-                                          second_byte_unknown_as_the_direction_changes_agrees,
-                                          (
-                                            digits_unknown_by_an_inner_line_agrees,
-                                            (
-                                              long_word_by_one_strobe_agrees,
-                                              (
-                                                strobe_rises_with_the_answer_of_a_write_agrees,
-                                                (
-                                                  byte_known_once_it_is_moved_agrees,
-                                                  (
-                                                    long_word_unknown_by_the_second_strobe_agrees,
-                                                    (
-                                                      no_byte_by_an_unknown_size_agrees,
-                                                      (
-                                                        no_long_word_by_an_unknown_size_agrees,
-                                                        (
-                                                          no_long_word_at_an_unknown_address_agrees,
-                                                          (
-                                                            data_known_as_the_strobe_falls_agrees,
-                                                            (
-                                                              second_byte_unknown_after_a_bus_error_agrees,
-                                                              (
-                                                                highest_line_of_a_long_word_changes_agrees,
-                                                                (
-                                                                  data_unknown_in_an_acknowledge_agrees,
-                                                                  (
-                                                                    data_unknown_with_lowest_address_line_low_agrees,
-                                                                    (data_lost_with_a_bus_error_agrees, tt),
-                                                                  ),
-                                                                ),
-                                                              ),
-                                                            ),
-                                                          ),
-                                                        ),
-                                                      ),
-                                                    ),
-                                                  ),
-                                                ),
-                                              ),
-                                            ),
-                                          ),
-                                        ),
-                                      ),
-                                    ),
-                                  ),
-                                ),
-                              ),
-                            ),
-                          ),
-                        ),
-                      ),
-                    ),
-                  ),
-                ),
-              ),
-            ),
-          ),
-        ),
-      ),
-    ),
-  ),
-)
+write_data_agree = All-from_recursion Agrees write_data
+    (data_unknown_agrees & unmoved_data_unknown_agrees & data_change_with_the_answer_agrees & data_change_agrees
+    & unmoved_data_change_agrees & data_of_a_read_agrees & second_byte_unknown_agrees
+    & second_byte_unknown_with_the_answer_agrees & second_byte_unknown_after_the_answer_agrees & upper_byte_alone_agrees
+    & second_byte_changes_agrees & data_lost_agrees & data_change_after_the_answer_agrees & long_word_agrees
+    & long_word_unknown_agrees & long_word_changes_agrees & no_long_word_at_an_odd_word_agrees & lanes_unknown_agrees
+    & answered_as_it_starts_agrees & byte_lost_as_the_second_strobe_falls_agrees
+    & second_byte_unknown_as_the_direction_changes_agrees & digits_unknown_by_an_inner_line_agrees
+    & long_word_by_one_strobe_agrees & strobe_rises_with_the_answer_of_a_write_agrees
+    & byte_known_once_it_is_moved_agrees & long_word_unknown_by_the_second_strobe_agrees
+    & no_byte_by_an_unknown_size_agrees & no_long_word_by_an_unknown_size_agrees
+    & no_long_word_at_an_unknown_address_agrees & data_known_as_the_strobe_falls_agrees
+    & second_byte_unknown_after_a_bus_error_agrees & highest_line_of_a_long_word_changes_agrees
+    & data_unknown_in_an_acknowledge_agrees & data_unknown_with_lowest_address_line_low_agrees
+    & data_lost_with_a_bus_error_agrees & tt)

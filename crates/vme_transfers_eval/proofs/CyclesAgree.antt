@@ -8,6 +8,7 @@ use Rattle.vme_eval.specs.Cycles.{answer_as_the_cycle_starts_counts, block_read,
 use Rattle.vme_eval.specs.Cycles.{block_turns_from_write_to_read, free_cycle, free_cycle_reads_writes_and_reads}
 use Rattle.vme_eval.specs.Cycles.{extended_read, extended_block_read, acknowledge_line_rises_as_the_cycle_starts}
 use Rattle.vme_eval.proofs.Everything.{everything, rows}
+use Rattle.vme_eval.proofs.Facts.{◌&◌}
 
 pub read_modify_write_agrees : Agrees read_modify_write
 unfolding everything rows read_modify_write
@@ -63,43 +64,8 @@ acknowledge_line_rises_as_the_cycle_starts_agrees = record { well_formed = refl;
 
 -- all recordings of `cycles` have the verdict and the rows that stand beside them
 pub cycles_agree : All Agrees cycles
-cycles_agree = All-from_recursion Agrees cycles (
-  read_modify_write_agrees,
-  (
-    write_then_read_agrees,
-    (
-      two_writes_agrees,
-      (
-        read_write_write_agrees,
-        (
-          answer_as_the_cycle_starts_counts_agrees,
-          (
-            block_read_agrees,
-            (
-              block_turns_agrees,
-              (
-                block_turns_from_write_to_read_agrees,
-                (
-                  free_cycle_agrees,
-                  (
-                    free_cycle_reads_writes_and_reads_agrees,
-                    (
-                      extended_read_agrees,
-                      (
-                        extended_block_read_agrees,
-                        (
-                          acknowledge_line_rises_as_the_cycle_starts_agrees,
-                          tt,
-                        ),
-                      ),
-                    ),
-                  ),
-                ),
-              ),
-            ),
-          ),
-        ),
-      ),
-    ),
-  ),
-)
+cycles_agree = All-from_recursion Agrees cycles
+    (read_modify_write_agrees & write_then_read_agrees & two_writes_agrees & read_write_write_agrees
+    & answer_as_the_cycle_starts_counts_agrees & block_read_agrees & block_turns_agrees
+    & block_turns_from_write_to_read_agrees & free_cycle_agrees & free_cycle_reads_writes_and_reads_agrees
+    & extended_read_agrees & extended_block_read_agrees & acknowledge_line_rises_as_the_cycle_starts_agrees & tt)

@@ -15,6 +15,7 @@ use Rattle.vme_eval.specs.Transfers.{answer_rises_with_the_strobes, cycle_ends_u
 use Rattle.vme_eval.specs.Transfers.{transfer_as_the_cycle_ends, answer_without_a_cycle, strobe_before_the_cycle}
 use Rattle.vme_eval.specs.Transfers.{transfer_between_two_cycles}
 use Rattle.vme_eval.proofs.Everything.{everything, rows}
+use Rattle.vme_eval.proofs.Facts.{◌&◌}
 
 pub read_cycle_agrees : Agrees read_cycle
 unfolding everything rows read_cycle
@@ -126,85 +127,13 @@ transfer_between_two_cycles_agrees = record { well_formed = refl; verdict = refl
 
 -- all recordings of `transfers` have the verdict and the rows that stand beside them
 pub transfers_agree : All Agrees transfers
-transfers_agree = All-from_recursion Agrees transfers (
-  read_cycle_agrees,
-  (
-    read_cycle_from_idle_agrees,
-    (
-      pipelined_cycles_agrees,
-      (
-        bus_error_agrees,
-        (
-          starts_before_the_answer_rose_agrees,
-          (
-            answer_rises_as_the_next_transfer_starts_agrees,
-            (
-              strobes_rise_early_agrees,
-              (
-                strobes_rise_with_answer_agrees,
-                (
-                  one_strobe_rises_early_agrees,
-                  (
-                    strobe_falls_after_the_answer_agrees,
-                    (
-                      strobe_falls_with_the_answer_agrees,
-                      (
-                        second_strobe_falls_before_the_answer_agrees,
-                        (
-                          stray_answer_agrees,
-                          (
-                            bus_error_to_nobody_agrees,
-                            (
-                              answered_at_its_first_instant_agrees,
-                              (
-                                answered_by_both_lines_in_turn_agrees,
-                                (
-                                  answered_by_both_lines_at_once_agrees,
-                                  (
-                                    answered_again_by_the_same_line_agrees,
-                                    (
-                                      answer_withdrawn_early_agrees,
-                                      (
-                                        second_answer_withdrawn_early_agrees,
-                                        (
-                                          answer_rises_with_the_strobes_agrees,
-                                          (
-                                            cycle_ends_unanswered_agrees,
-                                            (
-                                              cycle_ends_with_the_answer_agrees,
-                                              (
-                                                transfer_as_the_cycle_ends_agrees,
-                                                (
-                                                  answer_without_a_cycle_agrees,
-                                                  (
-                                                    strobe_before_the_cycle_agrees,
-                                                    (
-                                                      transfer_between_two_cycles_agrees,
-                                                      tt,
-                                                    ),
-                                                  ),
-                                                ),
-                                              ),
-                                            ),
-                                          ),
-                                        ),
-                                      ),
-                                    ),
-                                  ),
-                                ),
-                              ),
-                            ),
-                          ),
-                        ),
-                      ),
-                    ),
-                  ),
-                ),
-              ),
-            ),
-          ),
-        ),
-      ),
-    ),
-  ),
-)
+transfers_agree = All-from_recursion Agrees transfers
+    (read_cycle_agrees & read_cycle_from_idle_agrees & pipelined_cycles_agrees & bus_error_agrees
+    & starts_before_the_answer_rose_agrees & answer_rises_as_the_next_transfer_starts_agrees & strobes_rise_early_agrees
+    & strobes_rise_with_answer_agrees & one_strobe_rises_early_agrees & strobe_falls_after_the_answer_agrees
+    & strobe_falls_with_the_answer_agrees & second_strobe_falls_before_the_answer_agrees & stray_answer_agrees
+    & bus_error_to_nobody_agrees & answered_at_its_first_instant_agrees & answered_by_both_lines_in_turn_agrees
+    & answered_by_both_lines_at_once_agrees & answered_again_by_the_same_line_agrees & answer_withdrawn_early_agrees
+    & second_answer_withdrawn_early_agrees & answer_rises_with_the_strobes_agrees & cycle_ends_unanswered_agrees
+    & cycle_ends_with_the_answer_agrees & transfer_as_the_cycle_ends_agrees & answer_without_a_cycle_agrees
+    & strobe_before_the_cycle_agrees & transfer_between_two_cycles_agrees & tt)
