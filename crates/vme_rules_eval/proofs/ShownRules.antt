@@ -1,13 +1,17 @@
 -- Each rule is shown by its example and the recordings nearest to that.
-use Rattle.std.proofs.Common.{ap, arith}
-use Rattle.std.specs.Prelude.{[], ◌∷◌, List, All}
-use Rattle.std.proofs.lemmas.List.Elements.{All-nil, All-cons}
-use Rattle.vme_trace.specs.Trace.{Trace}
+use Rattle.std.proofs.Common.{ap, arith, refl, ◌∙◌}
+use Rattle.std.proofs.lemmas.List.Elements.{All-from_recursion}
+use Rattle.std.specs.List.{AllByRecursion}
+use Rattle.std.specs.Prelude.{◌≡◌, ◌≤◌, length, Some}
+use Rattle.vme_trace.specs.Rules.{is_unreadable}
+use Rattle.vme_trace.specs.Verdict.{verdict}
 use Rattle.vme_trace.specs.declared.rule.Rule.{Rule}
 use Rattle.vme_trace.specs.declared.rule.Rule.TheVariants.{U1, U2, U3, U4, H1, H2, H3, H4, H5, H6, H7, H8, S1, S2, S3}
 use Rattle.vme_trace.specs.declared.rule.Rule.TheVariants.{C1, C2, G1, G2, G3, G4, G5, B1, B2, B3, B4, I1, I2, I3, I4}
 use Rattle.vme_trace.specs.declared.rule.Rule.TheVariants.{I5}
-use Rattle.vme_eval.specs.Examples.{Conforms, IsShown, named_rule, says_unreadable}
+use Rattle.vme_trace.specs.declared.verdict.Verdict.{Verdict}
+use Rattle.vme_eval.proofs.Facts.{◌&◌}
+use Rattle.vme_eval.specs.Examples.{Conforms, IsShown, example, named_rule, nearest, says_unreadable}
 use Rattle.vme_eval.specs.Dumps.{strobe_lost_at_once, answer_low_before_judging, address_lost_between_cycles}
 use Rattle.vme_judging_eval.proofs.DumpsAgree.{strobe_lost_at_once_agrees, answer_low_before_judging_agrees}
 use Rattle.vme_judging_eval.proofs.DumpsAgree.{address_lost_between_cycles_agrees}
@@ -102,351 +106,179 @@ use Rattle.vme_chains_eval.proofs.AcknowledgesAgree.{acknowledge_write_agrees}
 use Rattle.vme_chains_eval.proofs.AcknowledgesAgree.{acknowledge_is_a_read_from_its_start_agrees}
 use Rattle.vme_chains_eval.proofs.AcknowledgesAgree.{acknowledged_twice_agrees}
 
-cons : (t : Trace) (ts : List Trace) → Conforms t → All Conforms ts → All Conforms (t ∷ ts)
-cons t ts = All-cons Conforms t ts
-
-single : (t : Trace) → Conforms t → All Conforms (t ∷ [])
-single t conforms = cons t [] conforms (All-nil Conforms)
+-- a rule is shown by the verdict on its example and by those on the recordings nearest to it
+shown : (r : Rule) {v : Verdict} → verdict (example r) ≡ v → named_rule v ≡ Some r → says_unreadable v ≡ is_unreadable r
+    → 1 ≤ length (nearest r) → AllByRecursion Conforms (nearest r) → IsShown r
+shown r is rule unreadable some spared = record {
+  rule = ap named_rule is ∙ rule;
+  unreadable = ap says_unreadable is ∙ unreadable;
+  some = some;
+  spared = All-from_recursion Conforms (nearest r) spared;
+}
 
 U1_is_shown : IsShown U1
 unfolding strobe_lost_at_once address_lost_between_cycles answer_low_before_judging strobe_lost_with_the_reset
-U1_is_shown = record {
-  rule = ap named_rule strobe_lost_at_once_agrees.verdict;
-  unreadable = ap says_unreadable strobe_lost_at_once_agrees.verdict;
-  some = omega arith;
-  spared =
-      cons address_lost_between_cycles.trace (answer_low_before_judging.trace ∷ strobe_lost_with_the_reset.trace ∷ [])
-      address_lost_between_cycles_agrees.verdict
-      (cons answer_low_before_judging.trace (strobe_lost_with_the_reset.trace ∷ [])
-      answer_low_before_judging_agrees.verdict (single strobe_lost_with_the_reset.trace
-      strobe_lost_with_the_reset_agrees.verdict));
-}
+U1_is_shown = shown U1 strobe_lost_at_once_agrees.verdict refl refl (omega arith)
+    (address_lost_between_cycles_agrees.verdict & answer_low_before_judging_agrees.verdict
+    & strobe_lost_with_the_reset_agrees.verdict & tt)
 
 U2_is_shown : IsShown U2
 unfolding address_lost_as_the_cycle_starts address_known_as_the_cycle_starts read_cycle
-U2_is_shown = record {
-  rule = ap named_rule address_lost_as_the_cycle_starts_agrees.verdict;
-  unreadable = ap says_unreadable address_lost_as_the_cycle_starts_agrees.verdict;
-  some = omega arith;
-  spared = cons address_known_as_the_cycle_starts.trace (read_cycle.trace ∷ [])
-      address_known_as_the_cycle_starts_agrees.verdict (single read_cycle.trace read_cycle_agrees.verdict);
-}
+U2_is_shown = shown U2 address_lost_as_the_cycle_starts_agrees.verdict refl refl (omega arith)
+    (address_known_as_the_cycle_starts_agrees.verdict & read_cycle_agrees.verdict & tt)
 
 U3_is_shown : IsShown U3
 unfolding direction_unknown direction_known_as_the_transfer_starts
-U3_is_shown = record {
-  rule = ap named_rule direction_unknown_agrees.verdict;
-  unreadable = ap says_unreadable direction_unknown_agrees.verdict;
-  some = omega arith;
-  spared = single direction_known_as_the_transfer_starts.trace direction_known_as_the_transfer_starts_agrees.verdict;
-}
+U3_is_shown = shown U3 direction_unknown_agrees.verdict refl refl (omega arith)
+    (direction_known_as_the_transfer_starts_agrees.verdict & tt)
 
 U4_is_shown : IsShown U4
 unfolding data_unknown unmoved_data_unknown data_of_a_read
-U4_is_shown = record {
-  rule = ap named_rule data_unknown_agrees.verdict;
-  unreadable = ap says_unreadable data_unknown_agrees.verdict;
-  some = omega arith;
-  spared = cons unmoved_data_unknown.trace (data_of_a_read.trace ∷ []) unmoved_data_unknown_agrees.verdict
-      (single data_of_a_read.trace data_of_a_read_agrees.verdict);
-}
+U4_is_shown = shown U4 data_unknown_agrees.verdict refl refl (omega arith)
+    (unmoved_data_unknown_agrees.verdict & data_of_a_read_agrees.verdict & tt)
 
 H1_is_shown : IsShown H1
 unfolding starts_before_the_answer_rose answer_rises_as_the_next_transfer_starts
-H1_is_shown = record {
-  rule = ap named_rule starts_before_the_answer_rose_agrees.verdict;
-  unreadable = ap says_unreadable starts_before_the_answer_rose_agrees.verdict;
-  some = omega arith;
-  spared = single answer_rises_as_the_next_transfer_starts.trace
-      answer_rises_as_the_next_transfer_starts_agrees.verdict;
-}
+H1_is_shown = shown H1 starts_before_the_answer_rose_agrees.verdict refl refl (omega arith)
+    (answer_rises_as_the_next_transfer_starts_agrees.verdict & tt)
 
 H2_is_shown : IsShown H2
 unfolding strobes_rise_early strobes_rise_with_answer
-H2_is_shown = record {
-  rule = ap named_rule strobes_rise_early_agrees.verdict;
-  unreadable = ap says_unreadable strobes_rise_early_agrees.verdict;
-  some = omega arith;
-  spared = single strobes_rise_with_answer.trace strobes_rise_with_answer_agrees.verdict;
-}
+H2_is_shown = shown H2 strobes_rise_early_agrees.verdict refl refl (omega arith)
+    (strobes_rise_with_answer_agrees.verdict & tt)
 
 H3_is_shown : IsShown H3
 unfolding strobe_falls_after_the_answer strobe_falls_with_the_answer second_strobe_falls_before_the_answer
-H3_is_shown = record {
-  rule = ap named_rule strobe_falls_after_the_answer_agrees.verdict;
-  unreadable = ap says_unreadable strobe_falls_after_the_answer_agrees.verdict;
-  some = omega arith;
-  spared = cons strobe_falls_with_the_answer.trace (second_strobe_falls_before_the_answer.trace ∷ [])
-      strobe_falls_with_the_answer_agrees.verdict (single second_strobe_falls_before_the_answer.trace
-      second_strobe_falls_before_the_answer_agrees.verdict);
-}
+H3_is_shown = shown H3 strobe_falls_after_the_answer_agrees.verdict refl refl (omega arith)
+    (strobe_falls_with_the_answer_agrees.verdict & second_strobe_falls_before_the_answer_agrees.verdict & tt)
 
 H4_is_shown : IsShown H4
 unfolding stray_answer answered_at_its_first_instant strobes_rise_with_answer
-H4_is_shown = record {
-  rule = ap named_rule stray_answer_agrees.verdict;
-  unreadable = ap says_unreadable stray_answer_agrees.verdict;
-  some = omega arith;
-  spared = cons answered_at_its_first_instant.trace (strobes_rise_with_answer.trace ∷ [])
-      answered_at_its_first_instant_agrees.verdict (single strobes_rise_with_answer.trace
-      strobes_rise_with_answer_agrees.verdict);
-}
+H4_is_shown = shown H4 stray_answer_agrees.verdict refl refl (omega arith)
+    (answered_at_its_first_instant_agrees.verdict & strobes_rise_with_answer_agrees.verdict & tt)
 
 H5_is_shown : IsShown H5
 unfolding answered_again_by_the_same_line answer_rises_as_the_next_transfer_starts bus_error
-H5_is_shown = record {
-  rule = ap named_rule answered_again_by_the_same_line_agrees.verdict;
-  unreadable = ap says_unreadable answered_again_by_the_same_line_agrees.verdict;
-  some = omega arith;
-  spared = cons answer_rises_as_the_next_transfer_starts.trace (bus_error.trace ∷ [])
-      answer_rises_as_the_next_transfer_starts_agrees.verdict (single bus_error.trace bus_error_agrees.verdict);
-}
+H5_is_shown = shown H5 answered_again_by_the_same_line_agrees.verdict refl refl (omega arith)
+    (answer_rises_as_the_next_transfer_starts_agrees.verdict & bus_error_agrees.verdict & tt)
 
 H6_is_shown : IsShown H6
 unfolding answer_withdrawn_early answer_rises_with_the_strobes
-H6_is_shown = record {
-  rule = ap named_rule answer_withdrawn_early_agrees.verdict;
-  unreadable = ap says_unreadable answer_withdrawn_early_agrees.verdict;
-  some = omega arith;
-  spared = single answer_rises_with_the_strobes.trace answer_rises_with_the_strobes_agrees.verdict;
-}
+H6_is_shown = shown H6 answer_withdrawn_early_agrees.verdict refl refl (omega arith)
+    (answer_rises_with_the_strobes_agrees.verdict & tt)
 
 H7_is_shown : IsShown H7
 unfolding cycle_ends_unanswered cycle_ends_with_the_answer transfer_as_the_cycle_ends
-H7_is_shown = record {
-  rule = ap named_rule cycle_ends_unanswered_agrees.verdict;
-  unreadable = ap says_unreadable cycle_ends_unanswered_agrees.verdict;
-  some = omega arith;
-  spared = cons cycle_ends_with_the_answer.trace (transfer_as_the_cycle_ends.trace ∷ [])
-      cycle_ends_with_the_answer_agrees.verdict (single transfer_as_the_cycle_ends.trace
-      transfer_as_the_cycle_ends_agrees.verdict);
-}
+H7_is_shown = shown H7 cycle_ends_unanswered_agrees.verdict refl refl (omega arith)
+    (cycle_ends_with_the_answer_agrees.verdict & transfer_as_the_cycle_ends_agrees.verdict & tt)
 
 H8_is_shown : IsShown H8
 unfolding answer_without_a_cycle address_changes_after_an_answer_at_the_start transfer_as_the_cycle_ends
-H8_is_shown = record {
-  rule = ap named_rule answer_without_a_cycle_agrees.verdict;
-  unreadable = ap says_unreadable answer_without_a_cycle_agrees.verdict;
-  some = omega arith;
-  spared = cons address_changes_after_an_answer_at_the_start.trace (transfer_as_the_cycle_ends.trace ∷ [])
-      address_changes_after_an_answer_at_the_start_agrees.verdict (single transfer_as_the_cycle_ends.trace
-      transfer_as_the_cycle_ends_agrees.verdict);
-}
+H8_is_shown = shown H8 answer_without_a_cycle_agrees.verdict refl refl (omega arith)
+    (address_changes_after_an_answer_at_the_start_agrees.verdict & transfer_as_the_cycle_ends_agrees.verdict & tt)
 
 S1_is_shown : IsShown S1
 unfolding address_changes_early address_changes_with_answer address_changes_as_the_cycle_ends
     address_changes_after_an_answer_at_the_start unneeded_line_changes
-S1_is_shown = record {
-  rule = ap named_rule address_changes_early_agrees.verdict;
-  unreadable = ap says_unreadable address_changes_early_agrees.verdict;
-  some = omega arith;
-  spared = cons address_changes_with_answer.trace (address_changes_as_the_cycle_ends.trace
-      ∷ address_changes_after_an_answer_at_the_start.trace ∷ unneeded_line_changes.trace ∷ [])
-      address_changes_with_answer_agrees.verdict (cons address_changes_as_the_cycle_ends.trace
-      (address_changes_after_an_answer_at_the_start.trace ∷ unneeded_line_changes.trace ∷ [])
-      address_changes_as_the_cycle_ends_agrees.verdict (cons address_changes_after_an_answer_at_the_start.trace
-      (unneeded_line_changes.trace ∷ []) address_changes_after_an_answer_at_the_start_agrees.verdict
-      (single unneeded_line_changes.trace unneeded_line_changes_agrees.verdict)));
-}
+S1_is_shown = shown S1 address_changes_early_agrees.verdict refl refl (omega arith)
+    (address_changes_with_answer_agrees.verdict & address_changes_as_the_cycle_ends_agrees.verdict
+    & address_changes_after_an_answer_at_the_start_agrees.verdict & unneeded_line_changes_agrees.verdict & tt)
 
 S2_is_shown : IsShown S2
 unfolding direction_changes direction_changes_as_a_strobe_rises direction_changes_as_the_transfer_starts
-S2_is_shown = record {
-  rule = ap named_rule direction_changes_agrees.verdict;
-  unreadable = ap says_unreadable direction_changes_agrees.verdict;
-  some = omega arith;
-  spared = cons direction_changes_as_a_strobe_rises.trace (direction_changes_as_the_transfer_starts.trace ∷ [])
-      direction_changes_as_a_strobe_rises_agrees.verdict (single direction_changes_as_the_transfer_starts.trace
-      direction_changes_as_the_transfer_starts_agrees.verdict);
-}
+S2_is_shown = shown S2 direction_changes_agrees.verdict refl refl (omega arith)
+    (direction_changes_as_a_strobe_rises_agrees.verdict & direction_changes_as_the_transfer_starts_agrees.verdict & tt)
 
 S3_is_shown : IsShown S3
 unfolding data_change data_change_with_the_answer second_byte_changes unmoved_data_change
-S3_is_shown = record {
-  rule = ap named_rule data_change_agrees.verdict;
-  unreadable = ap says_unreadable data_change_agrees.verdict;
-  some = omega arith;
-  spared = cons data_change_with_the_answer.trace (second_byte_changes.trace ∷ unmoved_data_change.trace ∷ [])
-      data_change_with_the_answer_agrees.verdict (cons second_byte_changes.trace (unmoved_data_change.trace ∷ [])
-      second_byte_changes_agrees.verdict (single unmoved_data_change.trace unmoved_data_change_agrees.verdict));
-}
+S3_is_shown = shown S3 data_change_agrees.verdict refl refl (omega arith)
+    (data_change_with_the_answer_agrees.verdict & second_byte_changes_agrees.verdict
+    & unmoved_data_change_agrees.verdict & tt)
 
 C1_is_shown : IsShown C1
 unfolding write_then_read read_modify_write free_cycle_reads_writes_and_reads
-C1_is_shown = record {
-  rule = ap named_rule write_then_read_agrees.verdict;
-  unreadable = ap says_unreadable write_then_read_agrees.verdict;
-  some = omega arith;
-  spared = cons read_modify_write.trace (free_cycle_reads_writes_and_reads.trace ∷ [])
-      read_modify_write_agrees.verdict (single free_cycle_reads_writes_and_reads.trace
-      free_cycle_reads_writes_and_reads_agrees.verdict);
-}
+C1_is_shown = shown C1 write_then_read_agrees.verdict refl refl (omega arith)
+    (read_modify_write_agrees.verdict & free_cycle_reads_writes_and_reads_agrees.verdict & tt)
 
 C2_is_shown : IsShown C2
 unfolding block_turns block_read free_cycle_reads_writes_and_reads
-C2_is_shown = record {
-  rule = ap named_rule block_turns_agrees.verdict;
-  unreadable = ap says_unreadable block_turns_agrees.verdict;
-  some = omega arith;
-  spared = cons block_read.trace (free_cycle_reads_writes_and_reads.trace ∷ []) block_read_agrees.verdict
-      (single free_cycle_reads_writes_and_reads.trace free_cycle_reads_writes_and_reads_agrees.verdict);
-}
+C2_is_shown = shown C2 block_turns_agrees.verdict refl refl (omega arith)
+    (block_read_agrees.verdict & free_cycle_reads_writes_and_reads_agrees.verdict & tt)
 
 G1_is_shown : IsShown G1
 unfolding slot_grants_ungranted slot_grants_with_its_input slot_grants_as_its_input_rises
-G1_is_shown = record {
-  rule = ap named_rule slot_grants_ungranted_agrees.verdict;
-  unreadable = ap says_unreadable slot_grants_ungranted_agrees.verdict;
-  some = omega arith;
-  spared = cons slot_grants_with_its_input.trace (slot_grants_as_its_input_rises.trace ∷ [])
-      slot_grants_with_its_input_agrees.verdict (single slot_grants_as_its_input_rises.trace
-      slot_grants_as_its_input_rises_agrees.verdict);
-}
+G1_is_shown = shown G1 slot_grants_ungranted_agrees.verdict refl refl (omega arith)
+    (slot_grants_with_its_input_agrees.verdict & slot_grants_as_its_input_rises_agrees.verdict & tt)
 
 G2_is_shown : IsShown G2
 unfolding slot_ends_its_grant_early slot_ends_its_grant_as_its_input_falls
-G2_is_shown = record {
-  rule = ap named_rule slot_ends_its_grant_early_agrees.verdict;
-  unreadable = ap says_unreadable slot_ends_its_grant_early_agrees.verdict;
-  some = omega arith;
-  spared = single slot_ends_its_grant_as_its_input_falls.trace slot_ends_its_grant_as_its_input_falls_agrees.verdict;
-}
+G2_is_shown = shown G2 slot_ends_its_grant_early_agrees.verdict refl refl (omega arith)
+    (slot_ends_its_grant_as_its_input_falls_agrees.verdict & tt)
 
 G3_is_shown : IsShown G3
 unfolding second_level_granted another_level_granted_as_the_first_ends another_levels_grant_taken
-G3_is_shown = record {
-  rule = ap named_rule second_level_granted_agrees.verdict;
-  unreadable = ap says_unreadable second_level_granted_agrees.verdict;
-  some = omega arith;
-  spared = cons another_level_granted_as_the_first_ends.trace (another_levels_grant_taken.trace ∷ [])
-      another_level_granted_as_the_first_ends_agrees.verdict (single another_levels_grant_taken.trace
-      another_levels_grant_taken_agrees.verdict);
-}
+G3_is_shown = shown G3 second_level_granted_agrees.verdict refl refl (omega arith)
+    (another_level_granted_as_the_first_ends_agrees.verdict & another_levels_grant_taken_agrees.verdict & tt)
 
 G4_is_shown : IsShown G4
 unfolding grant_while_busy grant_falls_as_the_bus_is_let_go slot_read_as_the_bus_is_taken
-G4_is_shown = record {
-  rule = ap named_rule grant_while_busy_agrees.verdict;
-  unreadable = ap says_unreadable grant_while_busy_agrees.verdict;
-  some = omega arith;
-  spared = cons grant_falls_as_the_bus_is_let_go.trace (slot_read_as_the_bus_is_taken.trace ∷ [])
-      grant_falls_as_the_bus_is_let_go_agrees.verdict (single slot_read_as_the_bus_is_taken.trace
-      slot_read_as_the_bus_is_taken_agrees.verdict);
-}
+G4_is_shown = shown G4 grant_while_busy_agrees.verdict refl refl (omega arith)
+    (grant_falls_as_the_bus_is_let_go_agrees.verdict & slot_read_as_the_bus_is_taken_agrees.verdict & tt)
 
 G5_is_shown : IsShown G5
 unfolding grant_unasked request_with_the_grant request_low_at_the_start request_of_the_grant_before_serves_again
-G5_is_shown = record {
-  rule = ap named_rule grant_unasked_agrees.verdict;
-  unreadable = ap says_unreadable grant_unasked_agrees.verdict;
-  some = omega arith;
-  spared = cons request_with_the_grant.trace (request_low_at_the_start.trace
-      ∷ request_of_the_grant_before_serves_again.trace ∷ []) request_with_the_grant_agrees.verdict
-      (cons request_low_at_the_start.trace (request_of_the_grant_before_serves_again.trace ∷ [])
-      request_low_at_the_start_agrees.verdict (single request_of_the_grant_before_serves_again.trace
-      request_of_the_grant_before_serves_again_agrees.verdict));
-}
+G5_is_shown = shown G5 grant_unasked_agrees.verdict refl refl (omega arith)
+    (request_with_the_grant_agrees.verdict & request_low_at_the_start_agrees.verdict
+    & request_of_the_grant_before_serves_again_agrees.verdict & tt)
 
 B1_is_shown : IsShown B1
 unfolding bus_taken_ungranted grant_read_at_the_instant_before another_levels_grant_taken
-B1_is_shown = record {
-  rule = ap named_rule bus_taken_ungranted_agrees.verdict;
-  unreadable = ap says_unreadable bus_taken_ungranted_agrees.verdict;
-  some = omega arith;
-  spared = cons grant_read_at_the_instant_before.trace (another_levels_grant_taken.trace ∷ [])
-      grant_read_at_the_instant_before_agrees.verdict (single another_levels_grant_taken.trace
-      another_levels_grant_taken_agrees.verdict);
-}
+B1_is_shown = shown B1 bus_taken_ungranted_agrees.verdict refl refl (omega arith)
+    (grant_read_at_the_instant_before_agrees.verdict & another_levels_grant_taken_agrees.verdict & tt)
 
 B2_is_shown : IsShown B2
 unfolding grant_taken_twice grant_falls_as_the_bus_is_let_go another_level_granted_as_the_first_ends
-B2_is_shown = record {
-  rule = ap named_rule grant_taken_twice_agrees.verdict;
-  unreadable = ap says_unreadable grant_taken_twice_agrees.verdict;
-  some = omega arith;
-  spared = cons grant_falls_as_the_bus_is_let_go.trace (another_level_granted_as_the_first_ends.trace ∷ [])
-      grant_falls_as_the_bus_is_let_go_agrees.verdict (single another_level_granted_as_the_first_ends.trace
-      another_level_granted_as_the_first_ends_agrees.verdict);
-}
+B2_is_shown = shown B2 grant_taken_twice_agrees.verdict refl refl (omega arith)
+    (grant_falls_as_the_bus_is_let_go_agrees.verdict & another_level_granted_as_the_first_ends_agrees.verdict & tt)
 
 B3_is_shown : IsShown B3
 unfolding cycle_without_the_bus cycle_starts_as_the_bus_is_taken cycle_starts_as_the_bus_is_let_go
-B3_is_shown = record {
-  rule = ap named_rule cycle_without_the_bus_agrees.verdict;
-  unreadable = ap says_unreadable cycle_without_the_bus_agrees.verdict;
-  some = omega arith;
-  spared = cons cycle_starts_as_the_bus_is_taken.trace (cycle_starts_as_the_bus_is_let_go.trace ∷ [])
-      cycle_starts_as_the_bus_is_taken_agrees.verdict (single cycle_starts_as_the_bus_is_let_go.trace
-      cycle_starts_as_the_bus_is_let_go_agrees.verdict);
-}
+B3_is_shown = shown B3 cycle_without_the_bus_agrees.verdict refl refl (omega arith)
+    (cycle_starts_as_the_bus_is_taken_agrees.verdict & cycle_starts_as_the_bus_is_let_go_agrees.verdict & tt)
 
 B4_is_shown : IsShown B4
 unfolding grant_past_last_slot taken_by_the_last_slot grant_withdrawn
-B4_is_shown = record {
-  rule = ap named_rule grant_past_last_slot_agrees.verdict;
-  unreadable = ap says_unreadable grant_past_last_slot_agrees.verdict;
-  some = omega arith;
-  spared = cons taken_by_the_last_slot.trace (grant_withdrawn.trace ∷ []) taken_by_the_last_slot_agrees.verdict
-      (single grant_withdrawn.trace grant_withdrawn_agrees.verdict);
-}
+B4_is_shown = shown B4 grant_past_last_slot_agrees.verdict refl refl (omega arith)
+    (taken_by_the_last_slot_agrees.verdict & grant_withdrawn_agrees.verdict & tt)
 
 I1_is_shown : IsShown I1
 unfolding acknowledge_skips_slot acknowledge_with_its_input acknowledge_as_its_input_rises
-I1_is_shown = record {
-  rule = ap named_rule acknowledge_skips_slot_agrees.verdict;
-  unreadable = ap says_unreadable acknowledge_skips_slot_agrees.verdict;
-  some = omega arith;
-  spared = cons acknowledge_with_its_input.trace (acknowledge_as_its_input_rises.trace ∷ [])
-      acknowledge_with_its_input_agrees.verdict (single acknowledge_as_its_input_rises.trace
-      acknowledge_as_its_input_rises_agrees.verdict);
-}
+I1_is_shown = shown I1 acknowledge_skips_slot_agrees.verdict refl refl (omega arith)
+    (acknowledge_with_its_input_agrees.verdict & acknowledge_as_its_input_rises_agrees.verdict & tt)
 
 I2_is_shown : IsShown I2
 unfolding acknowledge_before_strobe acknowledge_as_the_strobe_rises acknowledge_near_a_strobe_and_near_the_cycle
     acknowledge_by_the_second_strobe
-I2_is_shown = record {
-  rule = ap named_rule acknowledge_before_strobe_agrees.verdict;
-  unreadable = ap says_unreadable acknowledge_before_strobe_agrees.verdict;
-  some = omega arith;
-  spared = cons acknowledge_as_the_strobe_rises.trace (acknowledge_near_a_strobe_and_near_the_cycle.trace
-      ∷ acknowledge_by_the_second_strobe.trace ∷ []) acknowledge_as_the_strobe_rises_agrees.verdict
-      (cons acknowledge_near_a_strobe_and_near_the_cycle.trace (acknowledge_by_the_second_strobe.trace ∷ [])
-      acknowledge_near_a_strobe_and_near_the_cycle_agrees.verdict (single acknowledge_by_the_second_strobe.trace
-      acknowledge_by_the_second_strobe_agrees.verdict));
-}
+I2_is_shown = shown I2 acknowledge_before_strobe_agrees.verdict refl refl (omega arith)
+    (acknowledge_as_the_strobe_rises_agrees.verdict & acknowledge_near_a_strobe_and_near_the_cycle_agrees.verdict
+    & acknowledge_by_the_second_strobe_agrees.verdict & tt)
 
 I3_is_shown : IsShown I3
 unfolding acknowledge_after_answer acknowledge_with_the_answer acknowledge_after_a_bus_error
     acknowledge_as_the_next_cycle_starts
-I3_is_shown = record {
-  rule = ap named_rule acknowledge_after_answer_agrees.verdict;
-  unreadable = ap says_unreadable acknowledge_after_answer_agrees.verdict;
-  some = omega arith;
-  spared = cons acknowledge_with_the_answer.trace (acknowledge_after_a_bus_error.trace
-      ∷ acknowledge_as_the_next_cycle_starts.trace ∷ []) acknowledge_with_the_answer_agrees.verdict
-      (cons acknowledge_after_a_bus_error.trace (acknowledge_as_the_next_cycle_starts.trace ∷ [])
-      acknowledge_after_a_bus_error_agrees.verdict (single acknowledge_as_the_next_cycle_starts.trace
-      acknowledge_as_the_next_cycle_starts_agrees.verdict));
-}
+I3_is_shown = shown I3 acknowledge_after_answer_agrees.verdict refl refl (omega arith)
+    (acknowledge_with_the_answer_agrees.verdict & acknowledge_after_a_bus_error_agrees.verdict
+    & acknowledge_as_the_next_cycle_starts_agrees.verdict & tt)
 
 I4_is_shown : IsShown I4
 unfolding acknowledge_write acknowledge_is_a_read_from_its_start
-I4_is_shown = record {
-  rule = ap named_rule acknowledge_write_agrees.verdict;
-  unreadable = ap says_unreadable acknowledge_write_agrees.verdict;
-  some = omega arith;
-  spared = single acknowledge_is_a_read_from_its_start.trace acknowledge_is_a_read_from_its_start_agrees.verdict;
-}
+I4_is_shown = shown I4 acknowledge_write_agrees.verdict refl refl (omega arith)
+    (acknowledge_is_a_read_from_its_start_agrees.verdict & tt)
 
 I5_is_shown : IsShown I5
 unfolding acknowledged_twice acknowledge_near_a_strobe_and_near_the_cycle
-I5_is_shown = record {
-  rule = ap named_rule acknowledged_twice_agrees.verdict;
-  unreadable = ap says_unreadable acknowledged_twice_agrees.verdict;
-  some = omega arith;
-  spared = single acknowledge_near_a_strobe_and_near_the_cycle.trace
-      acknowledge_near_a_strobe_and_near_the_cycle_agrees.verdict;
-}
+I5_is_shown = shown I5 acknowledged_twice_agrees.verdict refl refl (omega arith)
+    (acknowledge_near_a_strobe_and_near_the_cycle_agrees.verdict & tt)
 
 -- `IsShown` holds of each rule
 pub rule_is_shown : (r : Rule) → IsShown r
