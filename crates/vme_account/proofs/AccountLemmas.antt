@@ -7,7 +7,7 @@ use Rattle.std.specs.Prelude.{◌||◌, count_by, find}
 use Rattle.std.specs.List.{fold}
 use Rattle.std.specs.Option.{option_and_then}
 use Rattle.vme_trace.specs.Instants.{any}
-use Rattle.vme_trace.specs.Judged.{Stretch, is_idle_at, judged_stretches}
+use Rattle.vme_trace.specs.Judged.{Stretch, has_any_stretch, is_idle_at, judged_stretches}
 use Rattle.vme_trace.specs.Levels.{Levels, is_idle}
 use Rattle.vme_trace.specs.Rules.{all_rules}
 use Rattle.vme_trace.specs.Trace.{Trace, changed, levels_at}
@@ -27,7 +27,6 @@ use Rattle.vme_listing.specs.declared.row.Row.TheVariants as row
 use Rattle.vme_monitor.specs.OverStretches.{has_started}
 use Rattle.vme_monitor.specs.Run.{mark_at}
 use Rattle.vme_monitor.specs.Shows.{marks_over}
-use Rattle.vme_monitor.specs.Whole.{has_any_stretch}
 use Rattle.vme_monitor.specs.declared.mark.Mark.{Mark}
 use Rattle.vme_summary.specs.AllShown.{all_marks, all_over}
 use Rattle.vme_summary.specs.MarkedRows.{marks_listed, opening_marks, rows_of}

@@ -5,7 +5,7 @@ use Rattle.std.specs.Global.{Box}
 use Rattle.vme_audit.specs.Parts.{named_break}
 use Rattle.vme_listing.specs.Recorded.{recorded_rows}
 use Rattle.vme_monitor.specs.OverStretches.{has_started}
-use Rattle.vme_monitor.specs.Whole.{has_any_stretch}
+use Rattle.vme_trace.specs.Judged.{has_any_stretch}
 use Rattle.vme_trace.specs.Judged.{judged_stretches}
 use Rattle.vme_trace.specs.Levels.{Levels}
 use Rattle.vme_trace.specs.Trace.{Trace, levels_at}

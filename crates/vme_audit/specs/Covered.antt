@@ -3,7 +3,7 @@ use Rattle.std.specs.Prelude.{ℕ, Bool, true, false, not, ◌+◌, List, [], �
 use Rattle.std.specs.Prelude.{option_map, if◌then◌else◌}
 use Rattle.std.specs.Option.{option_map_or, option_or}
 use Rattle.std.specs.List.{list_any}
-use Rattle.vme_trace.specs.Judged.{judged_stretches, Stretch}
+use Rattle.vme_trace.specs.Judged.{has_any_stretch, judged_stretches}
 use Rattle.vme_trace.specs.Trace.{Trace, time_at}
 use Rattle.vme_trace.specs.declared.verdict.Break.{Break}
 use Rattle.vme_listing.specs.Places.{is_reset}
@@ -35,14 +35,9 @@ hanging (row ∷ rows) =
 unfoldable pub hang : Trace → Option ℕ
 hang t = hanging (rows_of (last_part t))
 
--- there is a stretch
-abbrev pub has_stretch : List Stretch → Bool
-has_stretch [] = false
-has_stretch (stretch ∷ stretches) = true
-
 -- a part has a judged stretch
 unfoldable pub is_judged_part : Part → Bool
-is_judged_part p = has_stretch (judged_stretches p.trace)
+is_judged_part p = has_any_stretch (judged_stretches p.trace)
 
 -- how many transfers were answered
 abbrev pub answered : Counts → ℕ

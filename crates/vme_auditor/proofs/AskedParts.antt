@@ -9,7 +9,7 @@ use Rattle.std.specs.List.{fold, list_any}
 use Rattle.std.specs.Option.{option_map, option_map_or}
 use Rattle.std.proofs.Math.Bool.{or-false, or_assoc}
 use Rattle.vme_trace.specs.Instants.{any}
-use Rattle.vme_trace.specs.Judged.{Stretch, judged_stretches}
+use Rattle.vme_trace.specs.Judged.{Stretch, has_any_stretch, judged_stretches}
 use Rattle.vme_trace.specs.Levels.{Levels}
 use Rattle.vme_trace.specs.Rules.{all_rules, ends_stretch}
 use Rattle.vme_trace.specs.Trace.{Trace, changed, levels_after, levels_at}
@@ -26,7 +26,6 @@ use Rattle.vme_monitor.specs.KnownRules.{known_begin}
 use Rattle.vme_monitor.specs.Outcome.{BreakWithin, earlier, shifted_break}
 use Rattle.vme_monitor.specs.OverStretches.{has_started, opening_phase}
 use Rattle.vme_monitor.specs.Run.{break_of_fault}
-use Rattle.vme_monitor.specs.Whole.{has_any_stretch}
 use Rattle.vme_monitor.specs.declared.known.Stateless.{Stateless}
 use Rattle.vme_monitor.specs.declared.mark.Fault.{Fault}
 use Rattle.vme_monitor.specs.declared.over_stretches.StretchPhase.{StretchPhase}

@@ -5,7 +5,6 @@ use Rattle.std.proofs.Common.{sym, ◌∙◌, ap, subst, arith, add-one, append-
 use Rattle.std.proofs.lemmas.List.{length-drop}
 use Rattle.std.specs.List.{fold}
 use Rattle.std.specs.Option.{option_map, option_map_or}
-use Rattle.vme_trace.specs.Judged.{Stretch, judged_stretches}
 use Rattle.vme_trace.specs.Levels.{Levels}
 use Rattle.vme_trace.specs.Trace.{changed, levels_at}
 use Rattle.vme_trace.specs.WellFormed.{malformed_step}
@@ -14,9 +13,8 @@ use Rattle.vme_trace.specs.declared.verdict.Break.{Break}
 use Rattle.vme_monitor.specs.Outcome.{BreakWithin, earlier, shifted_break}
 use Rattle.vme_monitor.specs.OverStretches.{has_started}
 use Rattle.vme_monitor.specs.Run.{break_of_fault}
-use Rattle.vme_monitor.specs.Whole.{has_any_stretch}
 use Rattle.vme_monitor.specs.declared.mark.Fault.{Fault}
-use Rattle.vme_audit.specs.Covered.{has_stretch, is_judged_part}
+use Rattle.vme_audit.specs.Covered.{is_judged_part}
 use Rattle.vme_audit.specs.Parts.{Part, last_from, own_break, part_after, parts_from}
 use Rattle.vme_auditor.specs.Audited.{AuditReached, with_step}
 use Rattle.vme_auditor.specs.Breaks.{last_instant_of}
@@ -89,11 +87,6 @@ memories_from-first_break (s ∷ x) m o =
     memories_around_break-step m o s x (first_fault_of m o (changed o s.changes) s.changes) s.time
     (memories_from-first_break x (next m o s x) (after m o s x))
 
--- the two tests whether there is a stretch agree
-has_any_stretch-has_stretch : (stretches : List Stretch) → has_any_stretch stretches ≡ has_stretch stretches
-has_any_stretch-has_stretch [] = refl
-has_any_stretch-has_stretch (stretch ∷ stretches) = refl
-
 module _ (finds : FindsFirst) (starts : KnowsStart) where
   -- after steps `x` the monitors have started exactly if the last part is judged
   abbrev AreJudged : ℕ → Type 0
@@ -112,9 +105,7 @@ module _ (finds : FindsFirst) (starts : KnowsStart) where
     -- after a part without a break the monitors have started exactly if it is judged
     judged-last_part : has_started (unbroken_memories (memories_at o) o x).known ≡ is_judged_part here
     unfolding is_judged_part
-    judged-last_part =
-        ap has_started (known-unbroken x (memories_at o) o) ∙ starts (recorded o x) ok few
-        ∙ has_any_stretch-has_stretch (judged_stretches (recorded o x))
+    judged-last_part = ap has_started (known-unbroken x (memories_at o) o) ∙ starts (recorded o x) ok few
 
     -- after a part with a break or without one, and the parts after it, the monitors have started exactly if the last
     -- part is judged

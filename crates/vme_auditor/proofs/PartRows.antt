@@ -8,7 +8,7 @@ use Rattle.std.proofs.lemmas.List.Elements.{filter-append}
 use Rattle.std.proofs.lemmas.Bool.{le-ltb, lt-ltb}
 use Rattle.vme_trace.specs.LineNumbers.{BBSY}
 use Rattle.vme_trace.specs.Levels.{Levels, is_idle, is_low, level_at}
-use Rattle.vme_trace.specs.Judged.{Stretch, judged_stretches}
+use Rattle.vme_trace.specs.Judged.{Stretch, has_any_stretch, judged_stretches}
 use Rattle.vme_trace.specs.Trace.{Trace, changed}
 use Rattle.vme_trace.specs.Verdict.{least_of, rules_in_force, verdict}
 use Rattle.vme_trace.specs.WellFormed.{malformed_step}
@@ -23,7 +23,6 @@ use Rattle.vme_listing.specs.declared.row.Row.TheVariants as row
 use Rattle.vme_monitor.specs.Outcome.{shifted_mark}
 use Rattle.vme_monitor.specs.Run.{mark_at}
 use Rattle.vme_monitor.specs.Shows.{marks_over}
-use Rattle.vme_monitor.specs.Whole.{has_any_stretch}
 use Rattle.vme_monitor.specs.declared.mark.Mark.{Mark}
 use Rattle.vme_monitor.specs.declared.mark.MarkKind.{MarkKind}
 use Rattle.vme_monitor.specs.declared.mark.MarkKind.TheVariants as kind

@@ -3,7 +3,7 @@ use Rattle.std.proofs.Common.{◌≡◌, ℕ, zero, suc, ◌+◌, Bool, true, fa
 use Rattle.std.proofs.Common.{sym, ◌∙◌, ap, arith, append-nil, cond, Option, None, Some}
 use Rattle.std.specs.Prelude.{flat_map, slice_get}
 use Rattle.std.specs.Option.{option_map, option_map_or, option_to_list}
-use Rattle.vme_trace.specs.Judged.{Stretch, judged_stretches}
+use Rattle.vme_trace.specs.Judged.{Stretch, has_any_stretch, judged_stretches}
 use Rattle.vme_trace.specs.Rules.{all_rules, is_unreadable}
 use Rattle.vme_trace.specs.Trace.{Trace}
 use Rattle.vme_trace.specs.Verdict.{judge, least_of, verdict, verdict_by, verdict_on}
@@ -15,7 +15,7 @@ use Rattle.vme_listing.specs.declared.row.ListedVerdict.{ListedVerdict}
 use Rattle.vme_listing.specs.declared.row.Row.{Row}
 use Rattle.vme_listing.specs.declared.row.Row.TheVariants as row
 use Rattle.vme_audit.specs.Counted.{count_of, counts, counts_of_rows, rows_of}
-use Rattle.vme_audit.specs.Covered.{has_stretch, is_judged_part}
+use Rattle.vme_audit.specs.Covered.{is_judged_part}
 use Rattle.vme_audit.specs.Parts.{Part, breaks, breaks_of, last_from, last_part, moved_by, named_break, own_break}
 use Rattle.vme_audit.specs.Parts.{part_after, parts, parts_from, whole}
 use Rattle.vme_auditor.proofs.FirstBreaks.{named_break-verdict_on}
@@ -99,7 +99,7 @@ module _ (t : Trace) where
       (sym (parts_from-unbroken (length t.steps) e))
     where
       conforms : (stretches : List Stretch) → named_break (judge all_rules t stretches) ≡ None
-          → judge all_rules t stretches ≡ cond (has_stretch stretches) Conforming NeverIdle
+          → judge all_rules t stretches ≡ cond (has_any_stretch stretches) Conforming NeverIdle
       conforms [] e = refl
       conforms (stretch ∷ stretches) e =
           ap verdict_on (sym (named_break-verdict_on (least_of all_rules t (stretch ∷ stretches))) ∙ e)

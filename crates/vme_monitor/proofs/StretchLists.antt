@@ -7,7 +7,7 @@ use Rattle.std.specs.Option.{option_or}
 use Rattle.std.proofs.lemmas.Bool.Decides.{nat_tests}
 use Rattle.vme_trace.specs.Instants.{those}
 use Rattle.vme_trace.specs.Trace.{Trace, last_instant}
-use Rattle.vme_trace.specs.Judged.{Stretch, judged_stretches, stretch_from, stretch_starts}
+use Rattle.vme_trace.specs.Judged.{Stretch, has_any_stretch, judged_stretches, stretch_from, stretch_starts}
 use Rattle.vme_trace.specs.Verdict.{break_at, break_before, least_break, least_of}
 use Rattle.vme_trace.specs.declared.rule.Rule.{Rule}
 use Rattle.vme_trace.specs.declared.verdict.Break.{Break}
@@ -17,7 +17,6 @@ use Rattle.vme_trace.proofs.ListLaws.{option_or-none}
 use Rattle.vme_monitor.specs.Outcome.{earlier}
 use Rattle.vme_monitor.specs.Run.{mark_at, kinds_of}
 use Rattle.vme_monitor.specs.Shows.{marks_on, marks_until, marks_within, marks_over}
-use Rattle.vme_monitor.specs.Whole.{has_any_stretch}
 use Rattle.vme_monitor.specs.declared.mark.StepMarks.{StepMarks}
 use Rattle.vme_monitor.specs.declared.mark.Mark.{Mark}
 use Rattle.vme_monitor.proofs.Unbroken.{break_at-after_end, break_at-before_start}

@@ -4,10 +4,10 @@
 ghost use Rattle.std.specs.Prelude.{◌≡◌, ℕ, ◌≤◌, List, Option, None};
 ghost use Rattle.vme_trace.specs.Trace.{Trace, levels_at};
 ghost use Rattle.vme_trace.specs.WellFormed.{malformed_step};
-ghost use Rattle.vme_trace.specs.Judged.{judged_stretches};
+ghost use Rattle.vme_trace.specs.Judged.{has_any_stretch, judged_stretches};
 ghost use Rattle.vme_monitor.specs.Judges.{Judges};
 ghost use Rattle.vme_monitor.specs.Shows.{Shows};
-ghost use Rattle.vme_monitor.specs.Whole.{FindsLeastWhere, RemembersWithin, ShowsAllWhere, has_any_stretch, run_whole};
+ghost use Rattle.vme_monitor.specs.Whole.{FindsLeastWhere, RemembersWithin, ShowsAllWhere, run_whole};
 ghost use Rattle.vme_monitor.specs.Along.{memory_from};
 ghost use Rattle.vme_monitor.specs.declared.over_stretches.StretchPhase.TheVariants.{InStretch};
 ghost use Rattle.vme_monitor.specs.Run.{machine_step};

@@ -4,7 +4,7 @@ use Rattle.std.proofs.Common.{ap}
 use Rattle.std.proofs.Common.{sym, ◌∙◌, Option, Some, None}
 use Rattle.vme_trace.specs.Blocks.{joined_steps}
 use Rattle.vme_trace.specs.Levels.{Levels}
-use Rattle.vme_trace.specs.Judged.{judged_stretches}
+use Rattle.vme_trace.specs.Judged.{has_any_stretch, judged_stretches}
 use Rattle.vme_trace.specs.Trace.{Trace, levels_after}
 use Rattle.vme_trace.specs.declared.block.Block.{Block}
 use Rattle.vme_trace.specs.declared.step.Step.{Step}
@@ -12,7 +12,6 @@ use Rattle.vme_trace.specs.declared.verdict.Break.{Break}
 use Rattle.vme_listing.specs.Listed.{Listed, in_newest_version}
 use Rattle.vme_listing.specs.Recorded.{listing_of, recorded_rows}
 use Rattle.vme_monitor.specs.Outcome.{Outcome, composed_outcome}
-use Rattle.vme_monitor.specs.Whole.{has_any_stretch}
 use Rattle.vme_monitor.specs.declared.mark.Mark.{Mark}
 use Rattle.vme_summary.specs.AllShown.{all_marks}
 use Rattle.vme_summary.specs.Joins.{joined_trace}

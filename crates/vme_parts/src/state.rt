@@ -3,11 +3,10 @@
 ghost use Rattle.std.specs.Prelude.{◌≡◌, ◌<◌, ◌^◌, [], None, length};
 ghost use Rattle.std.specs.Option.{option_map, option_or};
 ghost use Rattle.vme_trace.specs.Trace.{Trace};
-ghost use Rattle.vme_trace.specs.Judged.{judged_stretches};
+ghost use Rattle.vme_trace.specs.Judged.{has_any_stretch, judged_stretches};
 ghost use Rattle.vme_trace.specs.Verdict.{rules_in_force, verdict_by, verdict_on};
 ghost use Rattle.vme_monitor.specs.BothMonitors.{breaks_before as fault_before, least as least_of};
 ghost use Rattle.vme_monitor.specs.BothMonitors.{sooner as sooner_than};
-ghost use Rattle.vme_monitor.specs.Whole.{has_any_stretch};
 ghost use Rattle.vme_summary.specs.Summaries.{first_break_of};
 ghost use Rattle.vme_part_format.specs.Tables.{segment_value, table_value};
 ghost use Rattle.vme_part_tables.specs.Runs.{break_of};

@@ -8,14 +8,13 @@ use Rattle.vme_trace.specs.Trace.{Trace}
 use Rattle.vme_trace.specs.Block.{trace_of}
 use Rattle.vme_trace.specs.Blocks.{joined_steps}
 use Rattle.vme_trace.specs.WellFormed.{malformed_step}
-use Rattle.vme_trace.specs.Judged.{Stretch as Stretch, judged_stretches}
+use Rattle.vme_trace.specs.Judged.{Stretch as Stretch, has_any_stretch, judged_stretches}
 use Rattle.vme_trace.specs.Verdict.{judge, rules_in_force, verdict_by, verdict_on, least_of}
 use Rattle.vme_trace.specs.declared.block.Block.{Block}
 use Rattle.vme_trace.specs.declared.step.Step.{Step}
 use Rattle.vme_trace.specs.declared.verdict.Break.{Break}
 use Rattle.vme_trace.specs.declared.verdict.Verdict.{Verdict}
 use Rattle.vme_trace.specs.declared.verdict.Verdict.TheVariants.{NeverIdle}
-use Rattle.vme_monitor.specs.Whole.{has_any_stretch}
 use Rattle.vme_summary.specs.Joins.{BlocksJoin, first_time, is_later_time, joined_trace, last_time, left_by}
 use Rattle.vme_summary.specs.Progressed.{HasFound, HasFoundAll}
 use Rattle.vme_summary.specs.Summaries.{StandsForAll, SummaryFindsFor, SummaryStandsFor, first_break_of}

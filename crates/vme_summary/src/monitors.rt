@@ -2,11 +2,10 @@
 
 ghost use Rattle.std.specs.Prelude.{◌≡◌, ◌+◌, ◌^◌, ◌<◌, ◌≤◌, ◌∷◌, ◌++◌, List, [], length, IfOk};
 ghost use Rattle.vme_trace.specs.Levels.{Levels};
-ghost use Rattle.vme_trace.specs.Judged.{judged_stretches};
+ghost use Rattle.vme_trace.specs.Judged.{has_any_stretch, judged_stretches};
 ghost use Rattle.vme_trace.specs.Trace.{Trace, levels_after};
 ghost use Rattle.vme_trace.specs.declared.step.Step.{Step};
 ghost use Rattle.vme_monitor.specs.StepRuns.{seen_in};
-ghost use Rattle.vme_monitor.specs.Whole.{has_any_stretch};
 ghost use Rattle.vme_summary.specs.AllShown.{all_marks};
 ghost use Rattle.vme_summary.specs.HasRoom.{HasRoom};
 ghost use Rattle.vme_summary.specs.Advancing.{IsAdvancedTo};

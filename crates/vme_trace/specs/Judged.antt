@@ -1,5 +1,6 @@
 -- The instants of a recording that are judged.
 use Rattle.std.specs.Prelude.{◌≡◌, ◌≤◌, ℕ, Bool, true, false, ◌+◌, ◌&&◌, ◌||◌, not, unwrap_or, map, nat_lt, List}
+use Rattle.std.specs.Prelude.{[], ◌∷◌}
 use Rattle.vme_trace.specs.Instants.{any, none, least, greatest, those}
 use Rattle.vme_trace.specs.Levels.{is_idle, is_reset, loses_control}
 use Rattle.vme_trace.specs.Trace.{Trace, levels_at, last_instant}
@@ -56,6 +57,11 @@ stretch_starts t i = is_idle_at t i && not (was_idle t i) && none (is_cut_off t)
 -- every stretch that is judged, in order
 unfoldable pub judged_stretches : Trace → List Stretch
 judged_stretches t = map (stretch_from t) (those (stretch_starts t) 0 (last_instant t + 1))
+
+-- there is a stretch
+abbrev pub has_any_stretch : List Stretch → Bool
+has_any_stretch [] = false
+has_any_stretch (stretch ∷ stretches) = true
 
 -- the stretches that are judged and start at instant n or later
 abbrev pub stretches_after : Trace → ℕ → List Stretch
