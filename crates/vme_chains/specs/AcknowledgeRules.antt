@@ -1,5 +1,5 @@
 -- How slots pass an acknowledge on, by the levels before and after a step and its changes.
-use Rattle.std.specs.Prelude.{◌≡◌, refl, ℕ, ◌+◌, ◌-◌, ◌==◌, ◌<◌, Bool, true, false, not, ◌&&◌, ◌||◌, nat_lt, List, []}
+use Rattle.std.specs.Prelude.{◌≡◌, refl, ℕ, ◌+◌, ◌-◌, ◌<◌, Bool, true, false, not, ◌&&◌, ◌||◌, nat_lt, List, []}
 use Rattle.std.specs.Prelude.{◌∷◌, Option, None, Some, if◌then◌else◌}
 use Rattle.std.proofs.Common.{lit<}
 use Rattle.std.specs.Option.{is_some}
@@ -13,7 +13,7 @@ use Rattle.vme_trace.specs.declared.step.Change.{Change}
 use Rattle.vme_trace.specs.declared.rule.Rule.{Rule}
 use Rattle.vme_trace.specs.declared.rule.Rule.TheVariants.{I1, I2, I3}
 use Rattle.vme_monitor.specs.Run.{no_step_marks}
-use Rattle.vme_monitor.specs.Tracking.{entered, tracked, is_unanswered}
+use Rattle.vme_monitor.specs.Tracking.{entered, is_unanswered, tracked, transfer_phase_nth, transfer_phase_place}
 use Rattle.vme_monitor.specs.declared.mark.Fault.{Fault}
 use Rattle.vme_monitor.specs.declared.mark.StepMarks.{StepMarks}
 use Rattle.vme_monitor.specs.declared.mark.Next.{Next}
@@ -25,17 +25,6 @@ use Rattle.vme_chains.specs.declared.acknowledge.PassingSlots.{PassingSlots}
 -- the rules of interrupt acknowledge
 abbrev pub acknowledge_rules : List Rule
 acknowledge_rules = I1 ∷ I2 ∷ I3 ∷ []
-
--- the number of the phase of a transfer
-abbrev pub transfer_phase_place : TransferPhase → ℕ
-transfer_phase_place Closed = 0
-transfer_phase_place Reading = 1
-transfer_phase_place Writing = 2
-transfer_phase_place Answered = 3
-
--- the phase of a transfer with a number
-abbrev pub transfer_phase_nth : ℕ → TransferPhase
-transfer_phase_nth k = if k == 0 then Closed else if k == 1 then Reading else if k == 2 then Writing else Answered
 
 -- the number of a memory (state of the monitor's automaton): first those of a cycle that DTACK* hasn't answered
 abbrev pub acknowledge_memory_place : AcknowledgeMemory → ℕ

@@ -6,14 +6,14 @@ ghost use Rattle.vme_trace.specs.Changes.{first_changed};
 ghost use Rattle.vme_trace.specs.Edges.{falls_between};
 ghost use Rattle.vme_trace.specs.LineNumbers.{has_line, input_of as input_line, is_slot_iack};
 ghost use Rattle.vme_monitor.specs.Run.{no_step_marks};
+ghost use Rattle.vme_monitor.specs.Tracking.{transfer_phase_nth, transfer_phase_place};
 ghost use Rattle.vme_monitor.specs.Whole.{FindsLeast, ShowsAll};
 ghost use Rattle.vme_chains.specs.AcknowledgeRules.{acknowledge_rules, acknowledge_shown};
 ghost use Rattle.vme_chains.specs.AcknowledgeRules.{changes_memory as changes_memory_of};
 ghost use Rattle.vme_chains.specs.AcknowledgeRules.{changes_strobes as changes_strobes_of, fault_among};
 ghost use Rattle.vme_chains.specs.AcknowledgeRules.{is_answered_by_dtack, is_addressed as addressed_near};
 ghost use Rattle.vme_chains.specs.AcknowledgeRules.{is_strobed as strobed_near, memory_after};
-ghost use Rattle.vme_chains.specs.AcknowledgeRules.{passes_on as passes, passes_unasked, transfer_phase_nth};
-ghost use Rattle.vme_chains.specs.AcknowledgeRules.{transfer_phase_place};
+ghost use Rattle.vme_chains.specs.AcknowledgeRules.{passes_on as passes, passes_unasked};
 
 use vme_monitor::machine::{Enumerable, Small};
 use vme_monitor::mark::{Fault, NOTHING, Next, StepMarks};

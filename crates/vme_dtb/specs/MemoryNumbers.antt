@@ -1,6 +1,7 @@
 -- The number of each memory of the handshake (state of the monitor's automaton).
 use Rattle.std.proofs.Common.{◌≡◌, ℕ, ◌+◌, ◌*◌, ◌/◌, ◌%◌, ◌<◌, ◌≤◌, Bool, true, false, refl, ap, ◌∙◌, arith}
 use Rattle.std.specs.Prelude.{◌==◌, if◌then◌else◌}
+use Rattle.vme_monitor.specs.Tracking.{transfer_phase_nth, transfer_phase_place}
 use Rattle.vme_monitor.specs.declared.tracking.TransferPhase.{TransferPhase}
 use Rattle.vme_monitor.specs.declared.tracking.TransferPhase.TheVariants.{Closed, Reading, Writing, Answered}
 use Rattle.vme_dtb.specs.declared.cycle.CyclePhase.{CyclePhase}
@@ -8,17 +9,6 @@ use Rattle.vme_dtb.specs.declared.cycle.CyclePhase.TheVariants.{Free, Single, Si
 use Rattle.vme_dtb.specs.declared.cycle.CyclePhase.TheVariants.{BlockReading}
 use Rattle.vme_dtb.specs.declared.cycle.CyclePhase.TheVariants.{BlockWriting, Interrupt, InterruptDone}
 use Rattle.vme_dtb.specs.declared.memory.HandshakeMemory.{HandshakeMemory}
-
--- the number of the phase of a transfer
-abbrev pub transfer_phase_place : TransferPhase → ℕ
-transfer_phase_place Closed = 0
-transfer_phase_place Reading = 1
-transfer_phase_place Writing = 2
-transfer_phase_place Answered = 3
-
--- the phase with a number
-abbrev pub transfer_phase_nth : ℕ → TransferPhase
-transfer_phase_nth k = if k == 0 then Closed else if k == 1 then Reading else if k == 2 then Writing else Answered
 
 -- the number of the phase of a cycle
 abbrev pub cycle_place : CyclePhase → ℕ

@@ -1,7 +1,8 @@
 //! The memory of the handshake, i.e. the state of its automaton between two steps.
 
 ghost use Rattle.std.specs.Prelude.{◌≡◌, ◌<◌};
-ghost use Rattle.vme_dtb.specs.MemoryNumbers.{bit, transfer_phase_nth, transfer_phase_place};
+ghost use Rattle.vme_monitor.specs.Tracking.{transfer_phase_nth, transfer_phase_place};
+ghost use Rattle.vme_dtb.specs.MemoryNumbers.{bit};
 
 use crate::cycle::CyclePhase;
 use vme_monitor::machine::{Enumerable, Small};
