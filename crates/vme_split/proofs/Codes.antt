@@ -2,10 +2,12 @@
 -- starts, if no rule is broken.
 use Rattle.std.proofs.Common.{◌≡◌, ◌≢◌, ◌⊎◌, ℕ, zero, suc, ◌+◌, ◌*◌, ◌/◌, ◌%◌, ◌^◌, ◌<◌, ◌≤◌, Bool, true, false, ◌&&◌}
 use Rattle.std.proofs.Common.{not, if◌then◌else◌, refl, sym, ◌∙◌, ap, arith, subst, inl, inr, All}
+use Rattle.std.specs.Int.{bit_at}
 use Rattle.std.specs.Prelude.{Option, ◌==◌}
-use Rattle.std.proofs.Math.Nat.{div-div-eq-div-mul, pow-suc, pow-succ'}
+use Rattle.std.proofs.Math.Nat.{pow-suc, pow-succ'}
 use Rattle.std.proofs.lemmas.Bool.Decides.{nat_tests}
 use Rattle.std.proofs.lemmas.Bool.{eqb-true, eqb-false}
+use Rattle.std.proofs.lemmas.Nat.Bits.{bit_at-suc}
 use Rattle.vme_trace.specs.Instants.{least}
 use Rattle.vme_trace.specs.LineNumbers.{AS, IACK, AM}
 use Rattle.vme_trace.specs.Cycle.{class_of, has_known_modifier, is_modifier_bit_known, is_block}
@@ -31,7 +33,7 @@ use Rattle.vme_listing.specs.declared.row.AnswerLine.{AnswerLine}
 use Rattle.vme_listing.specs.declared.row.Direction.{Direction}
 use Rattle.vme_listing.specs.declared.row.Row.{Row}
 use Rattle.vme_listing.specs.declared.row.Row.TheVariants.{OpenTenure, Tenure, Transfer, PendingTransfer}
-use Rattle.vme_split.specs.Split.{bit_of, ShowNumber, address_line, ShowsModifier, ShowsAddress, IsOfItsCode}
+use Rattle.vme_split.specs.Split.{ShowNumber, address_line, ShowsModifier, ShowsAddress, IsOfItsCode}
 use Rattle.vme_split.proofs.Unbroken.{IsUnbroken, is_broken-unbroken}
 use Rattle.vme_split.proofs.EachRow.{All-rows_before, All-tenure_rows, All-cycle_rows_start, All-transfer_rows_any}
 use Rattle.vme_split.proofs.Known.{cycle_starts-after}
@@ -56,26 +58,23 @@ value-below p (suc n) =
     let e : 2 ^ suc n ≡ 2 ^ n * 2 = pow-suc 2 n in omega (arith, low, b, e)
 
 -- the lowest bit of b + 2 v is b
-bit_of-lowest : (b v : ℕ) → b ≤ 1 → (b + 2 * v) / 1 % 2 ≡ b
-bit_of-lowest b v h = omega arith
+bit_at-lowest : (b v : ℕ) → b ≤ 1 → (b + 2 * v) / 1 % 2 ≡ b
+bit_at-lowest b v h = omega arith
 
 -- the half of b + 2 v is v
 div-half : (b v : ℕ) → b ≤ 1 → (b + 2 * v) / 2 ≡ v
 div-half b v h = omega arith
 
 -- bit k + 1 of b + 2 v is bit k of v
-bit_of-shifted : (b v k : ℕ) → b ≤ 1 → bit_of (b + 2 * v) (suc k) ≡ bit_of v k
-bit_of-shifted b v k h =
-    ap (λ (x : ℕ). x % 2)
-    (ap (λ (y : ℕ). (b + 2 * v) / y) (pow-succ' 2 k)
-    ∙ (sym (div-div-eq-div-mul (b + 2 * v) 2 (2 ^ k)) ∙ ap (λ (x : ℕ). x / 2 ^ k) (div-half b v h)))
+bit_at-shifted : (b v k : ℕ) → b ≤ 1 → bit_at (b + 2 * v) (suc k) ≡ bit_at v k
+bit_at-shifted b v k h = bit_at-suc (b + 2 * v) k ∙ ap (λ (x : ℕ). bit_at x k) (div-half b v h)
 
 -- bit k of the number is 1 where p holds of k
-bit_of-value : (p : ℕ → Bool) (n k : ℕ) → k < n → bit_of (value p n) k ≡ (if p k then 1 else 0)
-bit_of-value p zero k h = absurd (omega (arith, h))
-bit_of-value p (suc n) zero h = bit_of-lowest (if p 0 then 1 else 0) (value (λ i. p (suc i)) n) (bit-le_1 (p 0))
-bit_of-value p (suc n) (suc k) h = bit_of-shifted (if p 0 then 1 else 0) (value (λ i. p (suc i)) n) k (bit-le_1 (p 0))
-    ∙ bit_of-value (λ i. p (suc i)) n k (omega (arith, h))
+bit_at-value : (p : ℕ → Bool) (n k : ℕ) → k < n → bit_at (value p n) k ≡ (if p k then 1 else 0)
+bit_at-value p zero k h = absurd (omega (arith, h))
+bit_at-value p (suc n) zero h = bit_at-lowest (if p 0 then 1 else 0) (value (λ i. p (suc i)) n) (bit-le_1 (p 0))
+bit_at-value p (suc n) (suc k) h = bit_at-shifted (if p 0 then 1 else 0) (value (λ i. p (suc i)) n) k (bit-le_1 (p 0))
+    ∙ bit_at-value (λ i. p (suc i)) n k (omega (arith, h))
 
 -- the weight of bit n + 1 is twice that of bit n, where the bit is set
 pow-doubled : (b : Bool) (n : ℕ) → (if b then 2 ^ suc n else 0) ≡ 2 * (if b then 2 ^ n else 0)
@@ -145,7 +144,7 @@ unfolding low high known
 ShowNumber-known t i line count k = (
   value-below (λ n. is_high_on (levels_at t i) (line n)) count,
   λ n h. is_known-bit
-      (level t (line n) i) (k n h) _ (bit_of-value (λ n. is_high_on (levels_at t i) (line n)) count n h),
+      (level t (line n) i) (k n h) _ (bit_at-value (λ n. is_high_on (levels_at t i) (line n)) count n h),
 )
 
 -- ---- the lines that a cycle needs

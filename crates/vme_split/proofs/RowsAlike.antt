@@ -1,8 +1,8 @@
 -- Rows of the same cycle agree, and so do rows of the same transfer, if they show what the lines show.
-use Rattle.std.proofs.Common.{◌≡◌, ℕ, zero, suc, ◌*◌, ◌/◌, ◌%◌, ◌^◌, ◌<◌, true, refl, sym, ◌∙◌, ap}
-use Rattle.std.proofs.Common.{ap₂, subst, arith, pow-suc, inl, inr}
+use Rattle.std.proofs.Common.{◌≡◌, ℕ, ◌/◌, ◌%◌, true, refl, sym, ◌∙◌, ap, ap₂, subst, arith, inl, inr}
+use Rattle.std.proofs.lemmas.Nat.Bits.{same_from_bits_below}
+use Rattle.std.specs.Int.{bit_at}
 use Rattle.std.specs.Prelude.{Option, None, Some}
-use Rattle.std.proofs.Math.Nat.{div-div-eq-div-mul}
 use Rattle.vme_trace.specs.Cycle.{highest_address, is_block}
 use Rattle.vme_trace.specs.Lanes.{lanes_at}
 use Rattle.vme_trace.specs.Levels.{is_low}
@@ -18,7 +18,7 @@ use Rattle.vme_listing.specs.declared.row.Row.{Row}
 use Rattle.vme_listing.specs.declared.row.Row.TheVariants.{Start, Reset, OpenTenure, Tenure, AddressedCycle}
 use Rattle.vme_listing.specs.declared.row.Row.TheVariants.{FreeCycle, InterruptCycle, Transfer, PendingTransfer}
 use Rattle.vme_listing.specs.declared.row.Row.TheVariants as row
-use Rattle.vme_split.specs.Split.{bit_of, ShowsBit, ShowNumber, address_line, data_instant, HaveSameData}
+use Rattle.vme_split.specs.Split.{ShowsBit, ShowNumber, address_line, data_instant, HaveSameData}
 use Rattle.vme_split.specs.Split.{ShowsAcknowledge, ShowsModifier, ShowsAddress, ShowsDirection, ShowsData, IsOfItsCode}
 use Rattle.vme_split.specs.Split.{AgreeOnCycle, AgreeOnTransfer}
 
@@ -34,29 +34,12 @@ ShowsBit-equal t line i a b (inl x) (inr y) = absurd (high-not_low t line i x.1 
 ShowsBit-equal t line i a b (inr x) (inl y) = absurd (high-not_low t line i y.1 x.1)
 ShowsBit-equal t line i a b (inr x) (inr y) = x.0 ∙ sym y.0
 
--- bit n + 1 of a number is bit n of its half
-bit_of-half : (x n : ℕ) → bit_of x (suc n) ≡ bit_of (x / 2) n
-bit_of-half x n =
-    let p = pow-suc 2 n in let twice : 2 ^ suc n ≡ 2 * 2 ^ n = omega (arith, p) in
-    ap (λ (y : ℕ). x / y % 2) twice ∙ ap (λ (y : ℕ). y % 2) (sym (div-div-eq-div-mul x 2 (2 ^ n)))
-
--- numbers below 2 to the power `count` with the same bits are equal
-equal-bits : (count x y : ℕ) → x < 2 ^ count → y < 2 ^ count → ((n : ℕ) → n < count → bit_of x n ≡ bit_of y n)
-    → x ≡ y
-equal-bits zero x y a b bits = let a' : x < 1 = a in let b' : y < 1 = b in omega (arith, a', b')
-equal-bits (suc count) x y a b bits =
-    let p = pow-suc 2 count in let a' : x / 2 < 2 ^ count = omega (arith, a, p) in
-    let b' : y / 2 < 2 ^ count = omega (arith, b, p) in
-    let half : x / 2 ≡ y / 2 = equal-bits count (x / 2) (y / 2) a' b'
-    (λ n small. sym (bit_of-half x n) ∙ (bits (suc n) (omega (arith, small)) ∙ bit_of-half y n)) in
-    let least : x / 1 % 2 ≡ y / 1 % 2 = bits 0 (omega arith) in omega (arith, half, least)
-
 -- lines show one number at an instant
 ShowNumber-equal : (t : Trace) (line : ℕ → ℕ) (count i x y : ℕ) → ShowNumber t line count i x
     → ShowNumber t line count i y
     → x ≡ y
-ShowNumber-equal t line count i x y a b = equal-bits count x y a.0 b.0
-    (λ n small. ShowsBit-equal t (line n) i (bit_of x n) (bit_of y n) (a.1 n small) (b.1 n small))
+ShowNumber-equal t line count i x y a b = same_from_bits_below count x y a.0 b.0
+    (λ n small. ShowsBit-equal t (line n) i (bit_at x n) (bit_at y n) (a.1 n small) (b.1 n small))
 
 -- lines show one number at instants that are the same
 ShowNumber-equal_at : (t : Trace) (line : ℕ → ℕ) (count i j x y : ℕ) → i ≡ j → ShowNumber t line count i x

@@ -3,6 +3,7 @@ use Rattle.std.specs.Prelude.{◌≡◌, ◌≢◌, ◌⊎◌, ◌<◌, ◌≤�
 use Rattle.std.specs.Prelude.{ℕ, suc, Bool, true, false}
 use Rattle.std.specs.Prelude.{List, [], ◌∷◌, ◌++◌, map, flat_map, All, Contains, filter, min, nat_lt, if◌then◌else◌}
 use Rattle.std.specs.Prelude.{Option, None, Some, MatchOption, IfSome, option_to_list}
+use Rattle.std.specs.Int.{bit_at}
 use Rattle.vme_trace.specs.Instants.{those}
 use Rattle.vme_trace.specs.Cycle.{highest_address, is_block}
 use Rattle.vme_trace.specs.LineNumbers.{AS, DTACK, BERR, IACK, AM, WRITE, A, BBSY, grant}
@@ -145,17 +146,13 @@ ShowsAcknowledge t (AddressedCycle start class modifier address end) = high t IA
 ShowsAcknowledge t (FreeCycle start modifier end) = high t IACK start ≡ true
 ShowsAcknowledge t other = Unit {0}
 
--- bit n of a number
-abbrev pub bit_of : ℕ → ℕ → ℕ
-bit_of x n = x / 2 ^ n % 2
-
 -- line l shows the bit at instant i: it is high for 1, and low for 0
 abbrev pub ShowsBit : Trace → ℕ → ℕ → ℕ → Type 0
 ShowsBit t l i bit = ((bit ≡ 1) × (high t l i ≡ true)) ⊎ ((bit ≡ 0) × (low t l i ≡ true))
 
 -- `count` lines show the number x at instant i: line n shows bit n, and x has no further bits
 abbrev pub ShowNumber : Trace → (ℕ → ℕ) → ℕ → ℕ → ℕ → Type 0
-ShowNumber t line count i x = (x < 2 ^ count) × ((n : ℕ) → n < count → ShowsBit t (line n) i (bit_of x n))
+ShowNumber t line count i x = (x < 2 ^ count) × ((n : ℕ) → n < count → ShowsBit t (line n) i (bit_at x n))
 
 -- the address lines start with A01
 abbrev pub address_line : ℕ → ℕ
