@@ -42,7 +42,8 @@ use Rattle.vme_account.proofs.ReachedLemmas.{after_fault, unbroken_at, found_sta
 use Rattle.vme_account.specs.UnendedRows.{open_row}
 use Rattle.vme_account.specs.StepsReached.{StepsReached, reached, with_step}
 use Rattle.vme_account.specs.RowCounts.{one_if}
-use Rattle.vme_account.specs.RowKinds.{is_of, is_open, is_reset, unless_reset}
+use Rattle.vme_listing.specs.Places.{is_reset}
+use Rattle.vme_account.specs.RowKinds.{is_of, is_open, unless_reset}
 use Rattle.vme_account.specs.declared.row_kind.Part.{Part}
 use Rattle.vme_account.specs.declared.row_kind.Part.TheVariants as part
 use Rattle.vme_account.specs.declared.row_kind.RowKind.{RowKind}

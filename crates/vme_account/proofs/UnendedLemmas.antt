@@ -24,7 +24,8 @@ use Rattle.vme_summary.specs.MarkedRows.{marked_direction, marked_line, marked_t
 use Rattle.vme_account.specs.UnendedRows.{answered_by, answered_in, closed, nothing_open, open_after}
 use Rattle.vme_account.specs.UnendedRows.{open_in, open_next, open_row, opens, pending, pending_row, unanswered_by}
 use Rattle.vme_account.specs.UnendedRows.{unless_left}
-use Rattle.vme_account.specs.RowKinds.{is_open, is_reset, unless_reset}
+use Rattle.vme_listing.specs.Places.{is_reset}
+use Rattle.vme_account.specs.RowKinds.{is_open, unless_reset}
 use Rattle.vme_account.specs.declared.open_rows.UnendedRows.{UnendedRows}
 use Rattle.vme_account.specs.declared.open_rows.Waiting.{Waiting}
 use Rattle.vme_account.specs.declared.row_kind.Part.{Part}

@@ -6,8 +6,10 @@ use Rattle.vme_listing.specs.declared.row.Direction.TheVariants.{Read, Write}
 use Rattle.vme_listing.specs.declared.row.Row.{Row}
 use Rattle.vme_listing.specs.declared.row.Row.TheVariants as row
 use Rattle.vme_trace.specs.declared.class.Class.TheVariants.{S, K}
-use Rattle.vme_account.specs.RowKinds.{is_answered_by, is_cycle_of, is_free_cycle, is_interrupt_cycle}
-use Rattle.vme_account.specs.RowKinds.{is_open_tenure_row, is_pending, is_reset, is_transfer_in}
+use Rattle.vme_listing.specs.Places.{is_reset}
+use Rattle.vme_audit.specs.Counted.{is_acknowledge_cycle, is_free_cycle, is_pending}
+use Rattle.vme_account.specs.RowKinds.{is_answered_by, is_cycle_of}
+use Rattle.vme_account.specs.RowKinds.{is_open_tenure_row, is_transfer_in}
 use Rattle.vme_account.specs.declared.row_counts.RowCounts.{RowCounts}
 use Rattle.vme_account.specs.declared.row_kind.RowKind.{RowKind}
 use Rattle.vme_account.specs.declared.row_kind.RowKind.TheVariants as kind
@@ -69,7 +71,7 @@ with_row c r =
       single_cycles = c.single_cycles + one_if (is_cycle_of S r);
       block_cycles = c.block_cycles + one_if (is_cycle_of K r);
       free_cycles = c.free_cycles + one_if (is_free_cycle r);
-      interrupt_cycles = c.interrupt_cycles + one_if (is_interrupt_cycle r);
+      interrupt_cycles = c.interrupt_cycles + one_if (is_acknowledge_cycle r);
       answered_reads = c.answered_reads + one_if (is_transfer_in Read r);
       answered_writes = c.answered_writes + one_if (is_transfer_in Write r);
       answered_by_dtack = c.answered_by_dtack + one_if (is_answered_by Dtack r);

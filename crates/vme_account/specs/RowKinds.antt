@@ -1,5 +1,6 @@
 -- Which rows of a listing are counted, and which are open where it ends.
 use Rattle.std.specs.Prelude.{ℕ, Bool, true, false, ◌&&◌, ◌==◌, not, Option, None, Some, is_some, if◌then◌else◌}
+use Rattle.vme_listing.specs.Places.{is_reset}
 use Rattle.vme_listing.specs.declared.row.AnswerLine.{AnswerLine}
 use Rattle.vme_listing.specs.declared.row.AnswerLine.TheVariants.{Dtack, Berr}
 use Rattle.vme_listing.specs.declared.row.Direction.{Direction}
@@ -8,6 +9,7 @@ use Rattle.vme_listing.specs.declared.row.Row.{Row}
 use Rattle.vme_listing.specs.declared.row.Row.TheVariants as row
 use Rattle.vme_trace.specs.declared.class.Class.{Class}
 use Rattle.vme_trace.specs.declared.class.Class.TheVariants.{S, K, I, F}
+use Rattle.vme_audit.specs.Counted.{is_acknowledge_cycle, is_free_cycle, is_pending}
 use Rattle.vme_account.specs.declared.row_kind.RowKind.{RowKind}
 use Rattle.vme_account.specs.declared.row_kind.RowKind.TheVariants as kind
 use Rattle.vme_account.specs.declared.row_kind.Part.{Part}
@@ -48,16 +50,6 @@ abbrev pub is_cycle_of : Class → Row → Bool
 is_cycle_of class (row.AddressedCycle start own modifier address end) = same_class own class
 is_cycle_of class r = false
 
--- the row is a cycle of class F
-abbrev pub is_free_cycle : Row → Bool
-is_free_cycle (row.FreeCycle start modifier end) = true
-is_free_cycle r = false
-
--- the row is an interrupt acknowledge cycle
-abbrev pub is_interrupt_cycle : Row → Bool
-is_interrupt_cycle (row.InterruptCycle start level end) = true
-is_interrupt_cycle r = false
-
 -- the row is an answered transfer in this direction
 abbrev pub is_transfer_in : Direction → Row → Bool
 is_transfer_in direction (row.Transfer own line start cycle answer close lanes) = same_direction own direction
@@ -68,16 +60,6 @@ abbrev pub is_answered_by : AnswerLine → Row → Bool
 is_answered_by line (row.Transfer direction own start cycle answer close lanes) = same_answer own line
 is_answered_by line r = false
 
--- the row is a transfer without an answer
-abbrev pub is_pending : Row → Bool
-is_pending (row.PendingTransfer start direction) = true
-is_pending r = false
-
--- the row is a reset
-abbrev pub is_reset : Row → Bool
-is_reset (row.Reset instant) = true
-is_reset r = false
-
 -- a row is of a kind
 abbrev pub is_of : RowKind → Row → Bool
 is_of kind.OpenTenures r = is_open_tenure_row r
@@ -85,7 +67,7 @@ is_of (kind.Tenures level slot) r = is_tenure_of level slot r
 is_of kind.SingleCycles r = is_cycle_of S r
 is_of kind.BlockCycles r = is_cycle_of K r
 is_of kind.FreeCycles r = is_free_cycle r
-is_of kind.InterruptCycles r = is_interrupt_cycle r
+is_of kind.InterruptCycles r = is_acknowledge_cycle r
 is_of kind.AnsweredReads r = is_transfer_in Read r
 is_of kind.AnsweredWrites r = is_transfer_in Write r
 is_of kind.AnsweredByDtack r = is_answered_by Dtack r

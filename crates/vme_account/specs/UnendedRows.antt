@@ -10,7 +10,8 @@ use Rattle.vme_monitor.specs.declared.mark.MarkKind.{MarkKind}
 use Rattle.vme_monitor.specs.declared.mark.MarkKind.TheVariants as kind
 use Rattle.vme_monitor.specs.declared.mark.TransferAnswer.{TransferAnswer}
 use Rattle.vme_summary.specs.MarkedRows.{marked_cycle, marked_direction, marked_line}
-use Rattle.vme_account.specs.RowKinds.{is_open, is_reset, unless_reset}
+use Rattle.vme_listing.specs.Places.{is_reset}
+use Rattle.vme_account.specs.RowKinds.{is_open, unless_reset}
 use Rattle.vme_account.specs.declared.open_rows.UnendedRows.{UnendedRows}
 use Rattle.vme_account.specs.declared.row_kind.Part.{Part}
 use Rattle.vme_account.specs.declared.row_kind.Part.TheVariants as part

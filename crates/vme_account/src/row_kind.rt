@@ -1,7 +1,8 @@
 //! The kinds of rows, and the parts that may be open where a listing ends.
 
 ghost use Rattle.std.specs.Prelude.{◌≡◌};
-ghost use Rattle.vme_account.specs.RowKinds.{is_answered_by, is_cycle_of, is_of, is_reset, is_tenure_of};
+ghost use Rattle.vme_listing.specs.Places.{is_reset};
+ghost use Rattle.vme_account.specs.RowKinds.{is_answered_by, is_cycle_of, is_of, is_tenure_of};
 ghost use Rattle.vme_account.specs.RowKinds.{is_transfer_in};
 
 use vme_listing::{AnswerLine, Direction, Row};
