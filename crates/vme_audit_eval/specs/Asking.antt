@@ -8,11 +8,8 @@ use Rattle.vme_trace.specs.declared.rule.Rule.TheVariants.{C1, C2, G1, G2, G3, G
 use Rattle.vme_trace.specs.declared.rule.Rule.TheVariants.{I5}
 use Rattle.vme_trace.specs.declared.step.Change.{Change}
 use Rattle.vme_eval.specs.Steps.{low, high, unknown_lines, steps_from, from_idle, from_idle_but}
+use Rattle.vme_eval.specs.Steps.{transfer_on_busy_bus}
 use Rattle.vme_audit_eval.specs.Audited.{Asking}
-
--- the steps `later` on an idle bus on which BBSY is Low
-abbrev pub on_busy_bus : List (List Change) → Trace
-on_busy_bus later = from_idle_but BBSY later
 
 abbrev pub asks : Trace → List Rule → Asking
 asks t rules = record { trace = t; asked = rules }
@@ -30,18 +27,18 @@ strobe_rises_at_the_start = asks (from_idle_but AS ((high AS ∷ []) ∷ [])) (U
 
 -- the address strobe falls, and then rises
 unfoldable pub cycle_starts : Asking
-cycle_starts = asks (on_busy_bus ((low AS ∷ []) ∷ [])) (U1 ∷ U2 ∷ S1 ∷ B3 ∷ [])
+cycle_starts = asks (from_idle_but BBSY ((low AS ∷ []) ∷ [])) (U1 ∷ U2 ∷ S1 ∷ B3 ∷ [])
 
 unfoldable pub cycle_ends : Asking
-cycle_ends = asks (on_busy_bus ((low AS ∷ []) ∷ (high AS ∷ []) ∷ [])) (U1 ∷ U2 ∷ H7 ∷ S1 ∷ B3 ∷ [])
+cycle_ends = asks (from_idle_but BBSY ((low AS ∷ []) ∷ (high AS ∷ []) ∷ [])) (U1 ∷ U2 ∷ H7 ∷ S1 ∷ B3 ∷ [])
 
 -- the address strobe falls as the bus is reset, or after a reset
 unfoldable pub cycle_starts_with_a_reset : Asking
-cycle_starts_with_a_reset = asks (on_busy_bus ((low AS ∷ low SYSRESET ∷ []) ∷ [])) (U1 ∷ [])
+cycle_starts_with_a_reset = asks (from_idle_but BBSY ((low AS ∷ low SYSRESET ∷ []) ∷ [])) (U1 ∷ [])
 
 unfoldable pub cycle_starts_after_a_reset : Asking
 cycle_starts_after_a_reset =
-    asks (on_busy_bus ((low SYSRESET ∷ []) ∷ (high SYSRESET ∷ []) ∷ (low AS ∷ []) ∷ [])) (U1 ∷ U2 ∷ S1 ∷ B3 ∷ [])
+    asks (from_idle_but BBSY ((low SYSRESET ∷ []) ∷ (high SYSRESET ∷ []) ∷ (low AS ∷ []) ∷ [])) (U1 ∷ U2 ∷ S1 ∷ B3 ∷ [])
 
 -- a strobe falls, or both do
 unfoldable pub transfer_starts : Asking
@@ -85,36 +82,33 @@ answer_rises_at_the_start = asks (from_idle ((low DTACK ∷ []) ∷ (high DTACK 
 
 -- a cycle starts after a break, before the bus is idle again, or after it was
 unfoldable pub cycle_starts_after_a_break : Asking
-cycle_starts_after_a_break = asks (on_busy_bus ((low DTACK ∷ []) ∷ (low AS ∷ []) ∷ [])) (U1 ∷ H4 ∷ H5 ∷ [])
+cycle_starts_after_a_break = asks (from_idle_but BBSY ((low DTACK ∷ []) ∷ (low AS ∷ []) ∷ [])) (U1 ∷ H4 ∷ H5 ∷ [])
 
 unfoldable pub cycle_starts_in_the_next_part : Asking
 cycle_starts_in_the_next_part =
-    asks (on_busy_bus ((low DTACK ∷ []) ∷ (high DTACK ∷ []) ∷ (low AS ∷ []) ∷ []))
+    asks (from_idle_but BBSY ((low DTACK ∷ []) ∷ (high DTACK ∷ []) ∷ (low AS ∷ []) ∷ []))
     (U1 ∷ U2 ∷ H4 ∷ H5 ∷ S1 ∷ B3 ∷ [])
 
 -- a transfer is answered, by a line that then rises
-abbrev pub answered : List Change → List (List Change) → Trace
-answered changes later = on_busy_bus (changes ∷ (low AS ∷ []) ∷ (low DS0 ∷ []) ∷ later)
-
 unfoldable pub transfer_is_answered : Asking
 transfer_is_answered =
-    asks (answered (low (AM 1) ∷ []) ((low DTACK ∷ []) ∷ []))
+    asks (transfer_on_busy_bus (low (AM 1) ∷ []) ((low DTACK ∷ []) ∷ []))
     (U1 ∷ U2 ∷ U3 ∷ H1 ∷ H4 ∷ H5 ∷ H8 ∷ S1 ∷ S2 ∷ B3 ∷ [])
 
 unfoldable pub answer_rises : Asking
 answer_rises =
-    asks (answered (low (AM 1) ∷ []) ((low DTACK ∷ []) ∷ (high DTACK ∷ []) ∷ []))
+    asks (transfer_on_busy_bus (low (AM 1) ∷ []) ((low DTACK ∷ []) ∷ (high DTACK ∷ []) ∷ []))
     (U1 ∷ U2 ∷ U3 ∷ H1 ∷ H4 ∷ H5 ∷ H6 ∷ H8 ∷ S1 ∷ S2 ∷ B3 ∷ [])
 
 unfoldable pub bus_error_rises : Asking
 bus_error_rises =
-    asks (answered (low (AM 1) ∷ []) ((low BERR ∷ []) ∷ (high BERR ∷ []) ∷ []))
+    asks (transfer_on_busy_bus (low (AM 1) ∷ []) ((low BERR ∷ []) ∷ (high BERR ∷ []) ∷ []))
     (U1 ∷ U2 ∷ U3 ∷ H1 ∷ H4 ∷ H5 ∷ H6 ∷ H8 ∷ S1 ∷ S2 ∷ B3 ∷ [])
 
 -- two transfers of a cycle are answered, by its class
 abbrev pub answered_twice : List Change → Trace
 answered_twice changes =
-    answered changes
+    transfer_on_busy_bus changes
     ((low DTACK ∷ []) ∷ (high DS0 ∷ []) ∷ (high DTACK ∷ []) ∷ (low DS0 ∷ []) ∷ (low DTACK ∷ []) ∷ [])
 
 unfoldable pub two_of_a_single_cycle : Asking
@@ -140,23 +134,23 @@ two_of_an_acknowledge_cycle =
 -- one transfer of a cycle is answered, by its class: only an interrupt acknowledge has a rule for that
 unfoldable pub one_of_a_block_cycle : Asking
 one_of_a_block_cycle =
-    asks (answered (low (AM 2) ∷ []) ((low DTACK ∷ []) ∷ []))
+    asks (transfer_on_busy_bus (low (AM 2) ∷ []) ((low DTACK ∷ []) ∷ []))
     (U1 ∷ U2 ∷ U3 ∷ H1 ∷ H4 ∷ H5 ∷ H8 ∷ S1 ∷ S2 ∷ B3 ∷ [])
 
 unfoldable pub one_of_an_acknowledge_cycle : Asking
 one_of_an_acknowledge_cycle =
-    asks (answered (low IACK ∷ []) ((low DTACK ∷ []) ∷ []))
+    asks (transfer_on_busy_bus (low IACK ∷ []) ((low DTACK ∷ []) ∷ []))
     (U1 ∷ U2 ∷ U3 ∷ H1 ∷ H4 ∷ H5 ∷ H8 ∷ S1 ∷ S2 ∷ B3 ∷ I4 ∷ [])
 
 -- an acknowledge that isn't answered
 unfoldable pub unanswered_acknowledge : Asking
-unanswered_acknowledge = asks (answered (low IACK ∷ []) []) (U1 ∷ U2 ∷ U3 ∷ H1 ∷ S1 ∷ S2 ∷ B3 ∷ [])
+unanswered_acknowledge = asks (transfer_on_busy_bus (low IACK ∷ []) []) (U1 ∷ U2 ∷ U3 ∷ H1 ∷ S1 ∷ S2 ∷ B3 ∷ [])
 
 -- two transfers are answered, each in a cycle of its own
 unfoldable pub two_of_two_cycles : Asking
 two_of_two_cycles =
     asks
-    (answered (low (AM 1) ∷ [])
+    (transfer_on_busy_bus (low (AM 1) ∷ [])
     ((low DTACK ∷ []) ∷ (high AS ∷ high DS0 ∷ []) ∷ (high DTACK ∷ []) ∷ (low AS ∷ []) ∷ (low DS0 ∷ [])
     ∷ (low DTACK ∷ [])
     ∷ []))
@@ -197,7 +191,7 @@ unfoldable pub bus_is_taken : Asking
 bus_is_taken = asks (from_idle ((low BBSY ∷ []) ∷ [])) (U1 ∷ B1 ∷ B2 ∷ B4 ∷ [])
 
 unfoldable pub bus_is_let_go : Asking
-bus_is_let_go = asks (on_busy_bus ((high BBSY ∷ []) ∷ [])) (U1 ∷ [])
+bus_is_let_go = asks (from_idle_but BBSY ((high BBSY ∷ []) ∷ [])) (U1 ∷ [])
 
 -- a slot passes an acknowledge on: the first slot, or the last one
 unfoldable pub slot_acknowledges : Asking

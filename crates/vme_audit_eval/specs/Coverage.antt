@@ -1,10 +1,8 @@
 -- What is counted of recordings, and which recordings are covered.
 use Rattle.std.specs.Prelude.{List, [], ◌∷◌}
-use Rattle.vme_trace.specs.LineNumbers.{AS, DS0, DTACK, BERR, IACK, WRITE, AM, BBSY, SYSRESET}
-use Rattle.vme_trace.specs.Trace.{Trace}
+use Rattle.vme_trace.specs.LineNumbers.{AS, DS0, DTACK, BERR, IACK, WRITE, AM, SYSRESET}
 use Rattle.vme_trace.specs.declared.rule.Rule.TheVariants.{H2, H4}
-use Rattle.vme_trace.specs.declared.step.Change.{Change}
-use Rattle.vme_eval.specs.Steps.{low, high, unknown_lines, idle_lines, from_idle, from_idle_but, once_granted}
+use Rattle.vme_eval.specs.Steps.{low, high, unknown_lines, idle_lines, from_idle, once_granted, transfer_on_busy_bus}
 use Rattle.vme_audit.specs.Allowances.{stopped_at}
 use Rattle.vme_audit.specs.Counted.{nothing_counted}
 use Rattle.vme_audit.specs.declared.outcome.CoverageGap.TheVariants.{NeverIdle, NeverIdleBehind, FewAnswers, Hang}
@@ -12,10 +10,6 @@ use Rattle.vme_audit.specs.declared.outcome.Outcome.TheVariants.{Conforming, Not
 use Rattle.vme_audit_eval.specs.Audited.{Audited}
 use Rattle.vme_audit_eval.specs.Breaks.{allow, allow_on, at_instant, one_read, two_stray_answers}
 use Rattle.vme_audit_eval.specs.Breaks.{break_in_the_last_step, nothing_judged_while_lost}
-
--- a cycle of one transfer on a busy bus, after `changes`; `later` has its answer, if there is one
-abbrev pub transfers : List Change → List (List Change) → Trace
-transfers changes later = from_idle_but BBSY (changes ∷ (low AS ∷ []) ∷ (low DS0 ∷ []) ∷ later)
 
 -- nothing but an opening of which nothing is known
 unfoldable pub nothing_known : Audited
@@ -79,7 +73,7 @@ tenure_cut_off = record {
 -- a write that BERR answers, in a block transfer cycle: the answer counts
 unfoldable pub bus_error_to_a_write : Audited
 bus_error_to_a_write = record {
-  trace = transfers (low WRITE ∷ []) ((low BERR ∷ []) ∷ []);
+  trace = transfer_on_busy_bus (low WRITE ∷ []) ((low BERR ∷ []) ∷ []);
   allowances = [];
   wanted = 1;
   starts = 0 ∷ [];
@@ -91,7 +85,7 @@ bus_error_to_a_write = record {
 -- a read in a cycle of a free code, and a cycle without a transfer
 unfoldable pub free_cycles : Audited
 free_cycles = record {
-  trace = transfers (low (AM 5) ∷ [])
+  trace = transfer_on_busy_bus (low (AM 5) ∷ [])
       ((low DTACK ∷ []) ∷ (high AS ∷ high DS0 ∷ []) ∷ (high DTACK ∷ []) ∷ (low AS ∷ []) ∷ []);
   allowances = [];
   wanted = 1;
@@ -104,7 +98,7 @@ free_cycles = record {
 -- an interrupt acknowledge
 unfoldable pub interrupt_acknowledge : Audited
 interrupt_acknowledge = record {
-  trace = transfers (low IACK ∷ []) ((low DTACK ∷ []) ∷ []);
+  trace = transfer_on_busy_bus (low IACK ∷ []) ((low DTACK ∷ []) ∷ []);
   allowances = [];
   wanted = 1;
   starts = 0 ∷ [];
@@ -116,7 +110,7 @@ interrupt_acknowledge = record {
 -- a transfer without an answer at the end
 unfoldable pub bus_hangs : Audited
 bus_hangs = record {
-  trace = transfers (low (AM 1) ∷ low WRITE ∷ []) [];
+  trace = transfer_on_busy_bus (low (AM 1) ∷ low WRITE ∷ []) [];
   allowances = [];
   wanted = 0;
   starts = 0 ∷ [];
@@ -132,7 +126,7 @@ bus_hangs_and_one_wanted = record bus_hangs { wanted = 1; outcome = NotCovered (
 -- a reset ends the transfer without an answer: it doesn't hang
 unfoldable pub hang_that_is_reset : Audited
 hang_that_is_reset = record bus_hangs {
-  trace = transfers (low (AM 1) ∷ low WRITE ∷ []) ((low SYSRESET ∷ []) ∷ []);
+  trace = transfer_on_busy_bus (low (AM 1) ∷ low WRITE ∷ []) ((low SYSRESET ∷ []) ∷ []);
   counts = record nothing_counted { resets = 1; single = 1; writes = 1; pending = 1 };
   outcome = Conforming 0;
 }

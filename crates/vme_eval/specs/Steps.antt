@@ -72,6 +72,10 @@ from_idle later = record { opening = unknown_lines; steps = at 0 idle_changes �
 abbrev pub from_idle_but : ℕ → List (List Change) → Trace
 from_idle_but l later = record { opening = unknown_lines; steps = at 0 (idle_changes_but l) ∷ steps_from 10 later }
 
+-- an idle bus on which BBSY is low, `changes`, the start of a cycle, that of a transfer, and then the steps `later`
+abbrev pub transfer_on_busy_bus : List Change → List (List Change) → Trace
+transfer_on_busy_bus changes later = from_idle_but BBSY (changes ∷ (low AS ∷ []) ∷ (low DS0 ∷ []) ∷ later)
+
 -- an idle bus, the bus granted to slot 2, and then the steps `later`
 abbrev pub once_granted : List (List Change) → Trace
 once_granted later = from_idle (granted ++ later)
