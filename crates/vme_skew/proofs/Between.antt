@@ -22,6 +22,7 @@ use Rattle.vme_bind.proofs.RecorderLemmas.{no_difference_at, same_levels, same_u
 use Rattle.vme_bind.proofs.RecorderLemmas.{level_at-set_other}
 use Rattle.vme_bind.proofs.RecorderLemmas.{length-set_level}
 use Rattle.vme_bind.proofs.CaptureLemmas.{level_at-changed_those, length-changed}
+use Rattle.vme_bind.proofs.EndLemmas.{one_step}
 use Rattle.vme_bind.proofs.StepsLemmas.{length-those_positive}
 
 -- ---- from levels to the same levels
@@ -29,10 +30,6 @@ use Rattle.vme_bind.proofs.StepsLemmas.{length-those_positive}
 -- no line differs between levels and the same levels
 differs-same : (v : Levels) (l : ℕ) → differs v v l ≡ false
 differs-same v l = no_difference_at v v l refl
-
--- a list of one step
-abbrev made_step : ℕ → List Change → List Step
-made_step time changes = record { time = time; changes = changes } ∷ []
 
 -- no line differs between levels and the same levels
 any_differs-same : (v : Levels) → any (differs v v) 0 line_count ≡ false
@@ -42,7 +39,7 @@ any_differs-same v = fails-any (differs v v) 0 line_count (λ l low lt. differs-
 pub step_between-same : (time : ℕ) (v : Levels) → step_between time v v ≡ []
 step_between-same time v = by_test (any (differs v v) 0 line_count) (any_differs-same v)
   where
-    by_test : (b : Bool) → b ≡ false → cond b (made_step time (changes_between v v)) [] ≡ []
+    by_test : (b : Bool) → b ≡ false → cond b (one_step time (changes_between v v)) [] ≡ []
     by_test false e = refl
     by_test true e = absurd (false≢true (sym e))
 
@@ -80,7 +77,7 @@ pub levels_after-step_between : (time : ℕ) (v w : Levels) → AreOfOne v w →
 levels_after-step_between time v w one = by_test (any (differs v w) 0 line_count) refl
   where
     by_test : (b : Bool) → any (differs v w) 0 line_count ≡ b
-        → levels_after v (cond b (made_step time (changes_between v w)) []) ≡ w
+        → levels_after v (cond b (one_step time (changes_between v w)) []) ≡ w
     by_test true e = changed-changes_between v w one
     by_test false e = equal-no_difference v w one e
 
@@ -198,7 +195,7 @@ changes_between-changed_from u v k (c ∷ cs) whole same h =
 pub step_between-changed : (time : ℕ) (v : Levels) (cs : List Change) → length v.levels ≡ line_count
     → are_changes v 0 cs ≡ true
     → is_empty cs ≡ false
-    → step_between time v (changed v cs) ≡ made_step time cs
+    → step_between time v (changed v cs) ≡ one_step time cs
 step_between-changed time v cs whole h some = by_test (any (differs v (changed v cs)) 0 line_count) refl
   where
     again : changes_between v (changed v cs) ≡ cs
@@ -208,8 +205,8 @@ step_between-changed time v cs whole h some = by_test (any (differs v (changed v
     empty ds e = ap is_empty e
 
     by_test : (b : Bool) → any (differs v (changed v cs)) 0 line_count ≡ b
-        → cond b (made_step time (changes_between v (changed v cs))) [] ≡ made_step time cs
-    by_test true e = ap (made_step time) again
+        → cond b (one_step time (changes_between v (changed v cs))) [] ≡ one_step time cs
+    by_test true e = ap (one_step time) again
     by_test false e =
         let none : cs ≡ [] = sym again ∙ ap (map (change_to (changed v cs))) (those-none (differs v (changed v cs)) 0
         line_count e) in

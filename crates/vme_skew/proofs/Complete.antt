@@ -14,9 +14,9 @@ use Rattle.vme_trace.specs.Levels.{Levels}
 use Rattle.vme_trace.specs.LineNumbers.{line_count}
 use Rattle.vme_trace.specs.Trace.{Trace, levels_at, time_at, time_of}
 use Rattle.vme_trace.specs.WellFormed.{malformed_step}
-use Rattle.vme_trace.specs.declared.step.Change.{Change}
 use Rattle.vme_trace.specs.declared.step.Step.{Step}
 use Rattle.vme_bind.specs.Recording.{changes_between, differs, step_between}
+use Rattle.vme_bind.proofs.EndLemmas.{one_step}
 use Rattle.vme_skew.specs.Settled.{IsRecording, begins_after, group_start, is_complete, settled, settled_until}
 use Rattle.vme_skew.specs.Settled.{step_to, steps_before}
 use Rattle.vme_skew.proofs.Laws.{first_or_later-cases, settled-zero_skew, length-groups, MayFollowParts-step}
@@ -39,15 +39,11 @@ All-no_step : (P : Step → Type 0) (xs : List Step) → length xs ≡ 0 → All
 All-no_step P [] e = All-nil P
 All-no_step P (x ∷ xs) e = absurd (omega (arith, e))
 
--- a list of one step
-abbrev made_step : ℕ → List Change → List Step
-made_step time changes = record { time = time; changes = changes } ∷ []
-
 -- the step between two sets of levels has the time that it is given
 time-step_between : (time : ℕ) (v w : Levels) → All (λ (s : Step). s.time ≡ time) (step_between time v w)
 time-step_between time v w = by_test (any (differs v w) 0 line_count)
   where
-    by_test : (b : Bool) → All (λ (s : Step). s.time ≡ time) (cond b (made_step time (changes_between v w)) [])
+    by_test : (b : Bool) → All (λ (s : Step). s.time ≡ time) (cond b (one_step time (changes_between v w)) [])
     by_test true = All-cons (λ (s : Step). s.time ≡ time) (record { time = time; changes = changes_between v w }) []
         refl (All-nil (λ (s : Step). s.time ≡ time))
     by_test false = All-nil (λ (s : Step). s.time ≡ time)
@@ -107,9 +103,9 @@ module _ (skew : ℕ) (t : Trace) where
       w = levels_at t n
 
       by_test : (some b : Bool) → nat_lt (start_time n + skew) time ≡ b
-          → filter (is_complete skew time) (cond some (made_step (start_time n) (changes_between v w)) [])
-          ≡ cond b (cond some (made_step (start_time n) (changes_between v w)) []) []
-      by_test true b e = ap (λ (c : Bool). cond c (made_step (start_time n) (changes_between v w)) []) e
+          → filter (is_complete skew time) (cond some (one_step (start_time n) (changes_between v w)) [])
+          ≡ cond b (cond some (one_step (start_time n) (changes_between v w)) []) []
+      by_test true b e = ap (λ (c : Bool). cond c (one_step (start_time n) (changes_between v w)) []) e
       by_test false true e = refl
       by_test false false e = refl
 

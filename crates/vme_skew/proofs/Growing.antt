@@ -24,7 +24,7 @@ group_start-at_most skew t (suc i) =
 
 module _ (t : Trace) (step : Step) where
   -- the recording with one more step
-  abbrev with_step : Trace
+  abbrev pub with_step : Trace
   with_step = with_steps t (step ∷ [])
 
   -- the levels at the instants before the step are as without it

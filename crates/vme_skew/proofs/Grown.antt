@@ -12,16 +12,12 @@ use Rattle.vme_trace.specs.declared.step.Step.{Step}
 use Rattle.vme_skew.specs.Settled.{group_start, is_complete, settled, settled_until, step_to, steps_before}
 use Rattle.vme_skew.proofs.Complete.{IsPrefix, step_to-complete, start_time, settled_until-prefix}
 use Rattle.vme_skew.proofs.Growing.{steps_before-next, begins, group_start-at_most, group_start-next, time_at-with_step}
-use Rattle.vme_skew.proofs.Growing.{time_at-last}
+use Rattle.vme_skew.proofs.Growing.{time_at-last, with_step}
 use Rattle.vme_skew.proofs.Laws.{length-append_one}
 
 -- the recording with the opening of `t` and these steps
 abbrev of_parts : Trace → List Step → Trace
 of_parts t xs = record { opening = t.opening; steps = xs }
-
--- the recording with one more step
-abbrev with_step : Trace → Step → Trace
-with_step t step = with_steps t (step ∷ [])
 
 -- a time isn't later than another by more than the skew if it isn't later at all
 nat_lt-no_later : (a b : ℕ) → b ≤ a → (skew : ℕ) → nat_lt (a + skew) b ≡ false

@@ -23,6 +23,7 @@ use Rattle.vme_trace.proofs.WellFormedSteps.{fits-at}
 use Rattle.vme_bind.specs.Recording.{differs, changes_between, step_between}
 use Rattle.vme_bind.proofs.RecorderLemmas.{no_difference_at}
 use Rattle.vme_bind.proofs.CaptureLemmas.{length-changed}
+use Rattle.vme_bind.proofs.EndLemmas.{one_step}
 use Rattle.vme_skew.specs.Settled.{IsRecording, begins_after, group_start, settled, step_to, steps_before}
 use Rattle.vme_skew.proofs.Between.{AreOfOne, Leads, equal-no_difference, may_follow-between, has_line-is_changed}
 use Rattle.vme_skew.proofs.Between.{changed-changes_between}
@@ -173,15 +174,11 @@ levels_after-groups skew n t is =
 
 -- ---- the number of steps
 
--- a list of one step
-abbrev made_step : ℕ → List Change → List Step
-made_step time changes = record { time = time; changes = changes } ∷ []
-
 -- at most one step is between two sets of levels
 length-step_between : (time : ℕ) (v w : Levels) → length (step_between time v w) ≤ 1
 length-step_between time v w = by_test (any (differs v w) 0 line_count)
   where
-    by_test : (b : Bool) → length (cond b (made_step time (changes_between v w)) []) ≤ 1
+    by_test : (b : Bool) → length (cond b (one_step time (changes_between v w)) []) ≤ 1
     by_test true = omega arith
     by_test false = omega arith
 
@@ -411,7 +408,7 @@ AreSettled-step_between : (o : Levels) (xs : List Step) (v w : Levels) (time : �
 AreSettled-step_between o xs v w time can_lead h = by_test (any (differs v w) 0 line_count) refl
   where
     by_test : (b : Bool) → any (differs v w) 0 line_count ≡ b
-        → AreSettled o (xs ++ cond b (made_step time (changes_between v w)) []) w (λ clock. clock ≤ time)
+        → AreSettled o (xs ++ cond b (one_step time (changes_between v w)) []) w (λ clock. clock ≤ time)
     by_test true some =
         let step : Step = record { time = time; changes = changes_between v w } in
         let may = may_follow-between v w (length xs) h.clock time can_lead some (first_or_later (length xs) h.clock time

@@ -14,10 +14,10 @@ use Rattle.vme_trace.proofs.ListLaws.{slice_get-here}
 use Rattle.vme_skew.specs.PassedOn.{IsPassedOn, KeepsSettled}
 use Rattle.vme_skew.specs.Settled.{settled}
 use Rattle.vme_skew.specs.Settling.{Settling, taken}
-use Rattle.vme_skew.proofs.Growing.{time_at-with_step, time_at-last}
+use Rattle.vme_skew.proofs.Growing.{time_at-with_step, time_at-last, with_step}
 use Rattle.vme_skew.proofs.Laws.{first_or_later-cases, IsRecording-settled, length-append_one}
 use Rattle.vme_skew.proofs.Laws.{MayFollowParts-step}
-use Rattle.vme_skew.proofs.SettlerSteps.{malformed_step-without_last, with_step}
+use Rattle.vme_skew.proofs.SettlerSteps.{malformed_step-without_last}
 
 -- before the first step the time that is reached, 0, is no later than any
 le-first : (clock reached time : ℕ) → clock ≡ 0 → reached ≡ clock → nat_le reached time ≡ true

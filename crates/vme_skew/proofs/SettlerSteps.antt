@@ -24,7 +24,7 @@ use Rattle.vme_skew.proofs.Between.{step_between-same}
 use Rattle.vme_skew.proofs.Complete.{settled_until-prefix, steps-settled_until}
 use Rattle.vme_skew.proofs.Growing.{steps_before-longer, steps_before-next, begins, levels_at-with_step}
 use Rattle.vme_skew.proofs.Growing.{group_start-longer, group_start-at_most, group_start-next}
-use Rattle.vme_skew.proofs.Growing.{time_at-with_step, time_at-last}
+use Rattle.vme_skew.proofs.Growing.{time_at-with_step, time_at-last, with_step}
 use Rattle.vme_skew.proofs.Laws.{first_or_later-cases, first_or-weaker, IsRecording-settled}
 use Rattle.vme_skew.proofs.Laws.{length-append_one, step_to-opening, is_step-append}
 use Rattle.vme_skew.proofs.StepByStep.{AreReadyFor, AreSettledTo, ChangeLines-ready, AreReadyFor-over}
@@ -37,10 +37,6 @@ step_in-option_to_list None = refl
 step_in-option_to_list (Some step) = refl
 
 -- ---- a recording with one more step
-
--- the recording with one more step
-abbrev pub with_step : Trace → Step → Trace
-with_step t step = with_steps t (step ∷ [])
 
 -- a well-formed recording is so without its last step
 pub malformed_step-without_last : (t : Trace) (step : Step) → malformed_step (with_step t step) ≡ None
