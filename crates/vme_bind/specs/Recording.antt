@@ -28,11 +28,6 @@ shown_as v = record { shown = v; now = v }
 abbrev pub end_of : RecorderLevels → ℕ → RecorderLevels
 end_of p time = shown_as p.now
 
--- an optional step as a list
-abbrev pub step_in : Option Step → List Step
-step_in None = []
-step_in (Some step) = step ∷ []
-
 -- `l` is a line of a backplane of `slots` slots
 pub record IsLine (slots l : ℕ) : Type 0 where
   pub below : l < line_count

@@ -2,6 +2,7 @@
 
 ghost use Rattle.std.specs.Prelude.{◌≡◌, ◌≢◌, ◌≤◌, ◌<◌, ℕ, false, IfOk, OnOk, map, length};
 ghost use Rattle.std.specs.Prelude.{◌↔◌, ◌⊎◌, IfSome, IsTrue, [], true};
+ghost use Rattle.std.specs.Option.{option_to_list};
 ghost use Rattle.vcd_read.specs.DetachedPieces.{entered};
 ghost use Rattle.vme_trace.specs.LineNumbers.{line_count};
 ghost use Rattle.vme_trace.specs.Levels.{same_level, set_level};
@@ -11,7 +12,7 @@ ghost use Rattle.vme_bind.specs.Capture.{level_of, level_in};
 ghost use Rattle.vme_bind.specs.NetLines.{line_bits_of};
 ghost use Rattle.vme_bind.specs.Recording.{IsLine, shown_as, differs, DifferWithin, AreLines, line_change, valued};
 ghost use Rattle.vme_bind.specs.Recording.{changes_between};
-ghost use Rattle.vme_bind.specs.Recording.{end_of, ended_steps, step_between, step_in};
+ghost use Rattle.vme_bind.specs.Recording.{end_of, ended_steps, step_between};
 
 use crate::net_lines::{LineBit, NetLines};
 use smallvec::SmallVec;
@@ -269,7 +270,7 @@ impl Recorder {
     pub fn end_instant(&mut self, alloc: Global, time: u64) -> Result<Option<Step>, AllocError>
         ensures now { self.new.now ≡ self.old.now }
         ensures shown { OnOk result (self.new ≡ record { shown = self.old.now; now = self.old.now }) }
-        ensures step { IfOk result (λ step. step_in step ≡ step_between time self.old.shown self.old.now) }
+        ensures step { IfOk result (λ step. option_to_list step ≡ step_between time self.old.shown self.old.now) }
     {
         if self.is_untouched() {
             return Ok(None);
@@ -302,7 +303,7 @@ impl Recorder {
         requires alone { (l : ℕ) → l ≢ line → differs self.old.shown self.old.now l ≡ false }
         ensures now { self.new.now ≡ self.old.now }
         ensures shown { self.new ≡ record { shown = self.old.now; now = self.old.now } }
-        ensures step { step_in result ≡ step_between time self.old.shown self.old.now }
+        ensures step { option_to_list result ≡ step_between time self.old.shown self.old.now }
     {
         let level = self.now.level(line);
         let is_shown = is_same(self.shown.level(line), level);
@@ -326,7 +327,7 @@ impl Recorder {
     pub fn end_with_lines(&mut self, alloc: Global, time: u64) -> Result<Option<Step>, AllocError>
         ensures now { self.new.now ≡ self.old.now }
         ensures shown { OnOk result (self.new ≡ record { shown = self.old.now; now = self.old.now }) }
-        ensures step { IfOk result (λ step. step_in step ≡ step_between time self.old.shown self.old.now) }
+        ensures step { IfOk result (λ step. option_to_list step ≡ step_between time self.old.shown self.old.now) }
     {
         let changes = show(alloc, self.first, self.last, &self.now, &mut self.shown)?;
         self.first = NONE_FIRST;
@@ -354,7 +355,7 @@ impl Recorder {
           shown = valued line_bits.now values.now self.old.now;
           now = valued line_bits.now values.now self.old.now;
         }) }
-        ensures step { IfOk result (λ step. step_in step
+        ensures step { IfOk result (λ step. option_to_list step
             ≡ step_between time self.old.shown (valued line_bits.now values.now self.old.now)) }
     {
         self.set_values(line_bits, values)?;
@@ -380,8 +381,8 @@ impl Recorder {
     /// than before. It fails if memory runs out, and then nothing is said of the recorder.
     pub fn end(&mut self, alloc: Global, ended: Option<u64>) -> Result<Option<Step>, AllocError>
         ensures ended { OnOk result (self.new ≡ entered end_of self.old ended) }
-        ensures step { IfOk result (λ step. step_in step ≡ ended_steps self.old ended) }
-        ensures leads { IfOk result (λ step. levels_after self.old.shown (step_in step) ≡ self.new.shown) }
+        ensures step { IfOk result (λ step. option_to_list step ≡ ended_steps self.old ended) }
+        ensures leads { IfOk result (λ step. levels_after self.old.shown (option_to_list step) ≡ self.new.shown) }
     {
         let _ = &self.first;
         match ended {

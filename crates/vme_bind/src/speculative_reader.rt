@@ -3,9 +3,9 @@
 
 ghost use Rattle.std.specs.Prelude.{◌≡◌, ◌↔◌, ℕ, List, [], IfOk};
 ghost use Rattle.std.specs.Prelude.{IfSome, IsTrue, length};
+ghost use Rattle.std.specs.Option.{option_to_list};
 ghost use Rattle.vme_trace.specs.LineNumbers.{line_count};
 ghost use Rattle.vme_trace.specs.Trace.{Trace};
-ghost use Rattle.vme_bind.specs.Recording.{step_in};
 ghost use Rattle.vme_bind.specs.TextPieces.{text_reached};
 ghost use Rattle.vme_bind.specs.SpeculativeReading.{AreLevelsAfter, MayFollowLevels, IsJoined, IsReadSpeculatively};
 ghost use Rattle.vme_bind.specs.SpeculativeReading.{with_recording};
@@ -204,7 +204,7 @@ impl SpeculativeReader {
         requires { MayFollowLevels self ahead }
         ensures { IfOk result (λ joined. (bytes : List ℕ) (recorded : Trace)
             → IsReadSpeculatively self.body.nets self.line_bits bytes recorded ahead
-            → IsJoined bytes recorded ahead.from self joined.0 (step_in joined.1)) }
+            → IsJoined bytes recorded ahead.from self joined.0 (option_to_list joined.1)) }
     {
         let SpeculativeReader {
             body_reader,

@@ -16,7 +16,7 @@ use Rattle.vme_trace.specs.declared.step.Change.{Change}
 use Rattle.vme_trace.specs.declared.step.Step.{Step}
 use Rattle.vme_trace.proofs.ListLaws.{slice_get-here}
 use Rattle.vme_trace.proofs.Ranges.{any-fails, fails-any, least-none, least-none-any}
-use Rattle.vme_bind.specs.Recording.{step_between, step_in}
+use Rattle.vme_bind.specs.Recording.{step_between}
 use Rattle.vme_skew.specs.Group.{ChangeLines, GroupLevels, begun}
 use Rattle.vme_skew.specs.Settled.{IsRecording, group_start, settled, settled_until, step_to, steps_before}
 use Rattle.vme_skew.specs.Settling.{IsAtGroup, IsBetweenGroups, IsInGroup, IsSettledSoFar, KeepsGroup, Settling}
@@ -30,11 +30,6 @@ use Rattle.vme_skew.proofs.Laws.{length-append_one, step_to-opening, is_step-app
 use Rattle.vme_skew.proofs.StepByStep.{AreReadyFor, AreSettledTo, ChangeLines-ready, AreReadyFor-over}
 use Rattle.vme_skew.proofs.StepByStep.{AreReadyFor-within, AreSettledTo-taken}
 use Rattle.vme_skew.proofs.StepByStep.{step_between-group}
-
--- an optional step is the same list by two definitions
-pub step_in-option_to_list : (o : Option Step) → step_in o ≡ option_to_list o
-step_in-option_to_list None = refl
-step_in-option_to_list (Some step) = refl
 
 -- ---- a recording with one more step
 
@@ -439,9 +434,9 @@ KeepsGroup-reached skew opening given out reached was_in_order is_begun group ti
 pub settled-KeepsGroup : (skew : ℕ) (opening : Levels) (given out : List Step) (reached : ℕ)
     (was_in_order is_begun : Bool)
     (group : GroupLevels) → KeepsGroup (settling skew opening given out reached was_in_order) is_begun group
-    → (made : Option Step) → step_in made ≡ step_between group.start group.before group.now
+    → (made : Option Step) → option_to_list made ≡ step_between group.start group.before group.now
     → malformed_step (record { opening = opening; steps = given }) ≡ None → was_in_order ≡ true
     → out ++ option_to_list made ≡ (settled skew (record { opening = opening; steps = given })).steps
 settled-KeepsGroup skew opening given out reached was_in_order is_begun group h made made_is formed ok =
-    ap (λ (xs : List Step). out ++ xs) (sym (step_in-option_to_list made) ∙ made_is)
+    ap (λ (xs : List Step). out ++ xs) made_is
     ∙ out-settled skew (record { opening = opening; steps = given }) out reached is_begun group (h.at formed ok)

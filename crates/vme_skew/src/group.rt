@@ -7,7 +7,7 @@ ghost use Rattle.std.specs.List.Sorted.{IsNonDecreasing};
 ghost use Rattle.vme_trace.specs.LineNumbers.{line_count};
 ghost use Rattle.vme_trace.specs.Levels.{set_level};
 ghost use Rattle.vme_trace.specs.Trace.{changed};
-ghost use Rattle.vme_bind.specs.Recording.{IsLine, changes_between, step_between, step_in};
+ghost use Rattle.vme_bind.specs.Recording.{IsLine, changes_between, step_between};
 ghost use Rattle.vme_skew.specs.Group.{ChangeLines, ListsTouchedLines, begun};
 
 use smallvec::SmallVec;
@@ -172,7 +172,7 @@ impl StepGroup {
     /// at time `next`. It fails if memory runs out, and then nothing is said of the group.
     pub fn end(&mut self, alloc: Global, next: u64) -> Result<Option<Step>, AllocError>
         ensures begun { OnOk result (self.new ≡ begun next self.old.now) }
-        ensures step { IfOk result (λ step. step_in step
+        ensures step { IfOk result (λ step. option_to_list step
             ≡ step_between self.old.start self.old.before self.old.now) }
     {
         self.touched.sort_unstable_by_key(|line| line.number());

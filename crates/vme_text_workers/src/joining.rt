@@ -1,9 +1,9 @@
 //! Pieces that were read ahead, joined in order as far as they fit.
 
 ghost use Rattle.std.specs.Prelude.{◌≡◌, ◌≤◌, ◌⊎◌, drop, length, IfOk, IfSome, Some};
+ghost use Rattle.std.specs.Option.{option_to_list};
 ghost use Rattle.std.specs.Vec.Iter.{into_iter_items};
 ghost use Rattle.vme_trace.specs.Followed.{with_steps};
-ghost use Rattle.vme_bind.specs.Recording.{step_in};
 ghost use Rattle.vme_bind.specs.SpeculativeReading.{MayFollowLevels, with_recording};
 ghost use Rattle.vme_text_workers.specs.SpeculativeChunks.{AreAhead, AreTaken, IsNextOf};
 
@@ -64,7 +64,7 @@ fn past_step<J: ChunkJudge>(
     stream_judge: StreamJudge<J>,
     step: Option<Step>,
 ) -> Result<StreamJudge<J>, AllocError>
-    ensures { IfOk result (λ passed. passed ≡ with_steps stream_judge (step_in step)) }
+    ensures { IfOk result (λ passed. passed ≡ with_steps stream_judge (option_to_list step)) }
 {
     let mut stream_judge = stream_judge;
     if let Some(step) = step {

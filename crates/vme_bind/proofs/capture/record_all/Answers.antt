@@ -1,8 +1,8 @@
 use Rattle.std.proofs.Common.{◌≡◌, ℕ, ◌++◌, Option, length, ◌∙◌, sym, ap, arith}
 use Rattle.std.proofs.lemmas.List.{append-nil}
+use Rattle.std.specs.Option.{option_to_list}
 use Rattle.vme_trace.specs.declared.step.Step.{Step}
 use Rattle.vme_bind.specs.Capture.{recording}
-use Rattle.vme_bind.specs.Recording.{step_in}
 use Rattle.vme_bind.proofs.OpeningLemmas.{shown_after-opening, shown_after-next, recording-next_steps, AreLines-after}
 use Rattle.vme_bind.proofs.OpeningLemmas.{recording-is}
 use Rattle.vme_bind.proofs.OpeningLemmas.{recording-no_step}
@@ -32,7 +32,7 @@ loop-instant-preserved c =
     let x = c.instant-item.result in
     let more =
     recording-next_steps slots bound_groups instants line_bits c.in_ok-line_bits.ensures i x c.loop-instant-test.true
-    c.instant-item.is c.loop-instant.recorder c.loop-instant.steps.items (step_in c.in_ok-step.field-0)
+    c.instant-item.is c.loop-instant.recorder c.loop-instant.steps.items (option_to_list c.in_ok-step.field-0)
     c.loop-instant.invariant.shown
     c.loop-instant.invariant.steps (rw c.as_slice.ensures at c.in_ok-step.ensures.step) in
     record {
@@ -42,9 +42,9 @@ loop-instant-preserved c =
           (rw c.as_slice.ensures at c.in_ok-step.ensures.shown);
       steps = elim c.match-branch-3.branch [
         | in-Some+in_ok-push w ↦ rw w.steps-is (w.in_ok-push.ensures.items
-            ∙ ap (λ (o : Option Step). c.loop-instant.steps.items ++ step_in o) (sym w.in-Some.is) ∙ more)
+            ∙ ap (λ (o : Option Step). c.loop-instant.steps.items ++ option_to_list o) (sym w.in-Some.is) ∙ more)
         | in_default w ↦ rw w.steps-is (sym (append-nil c.loop-instant.steps.items)
-            ∙ ap (λ (o : Option Step). c.loop-instant.steps.items ++ step_in o) (sym w.in_default.is) ∙ more)
+            ∙ ap (λ (o : Option Step). c.loop-instant.steps.items ++ option_to_list o) (sym w.in_default.is) ∙ more)
       ];
     }
 

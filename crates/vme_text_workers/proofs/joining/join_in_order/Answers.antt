@@ -2,8 +2,8 @@
 -- ahead or again, if at all.
 use Rattle.std.proofs.Common.{◌≡◌, ◌+◌, ◌∷◌, ◌∙◌, [], ap, drop, get_or, arith, refl, subst, sym}
 use Rattle.std.specs.Vec.Iter.{into_iter_items}
+use Rattle.std.specs.Option.{option_to_list}
 use Rattle.vme_trace.specs.Trace.{Trace, levels_after}
-use Rattle.vme_bind.specs.Recording.{step_in}
 use Rattle.vme_bind.specs.SpeculativeReading.{SpeculativeReached, with_recording}
 use Rattle.vme_text_workers.specs.SpeculativeChunks.{AreAhead, AreTaken}
 use Rattle.vme_text_workers.specs.declared.cut.DumpPiece.{DumpPiece}
@@ -51,7 +51,7 @@ pass-requires g c =
     let leaves : levels_after stream_judge.opening stream_judge.steps ≡ w.body.progress.accumulator.shown =
     ap (λ (t : Trace). levels_after t.opening t.steps) same ∙ c.in_ok-leaves.ensures.leaves c.if-not-branch.false
     ∙ c.shown.ensures in
-    opening-after_passed bytes chunks c.in-Some-fitting.ahead.from w v (step_in c.in_ok-behind.step)
+    opening-after_passed bytes chunks c.in-Some-fitting.ahead.from w v (option_to_list c.in_ok-behind.step)
     (c.in_ok-behind.ensures bytes chunks read.read)
     stream_judge c.in_ok-stream_judge.stream_judge c.in_ok-stream_judge.ensures read.opening leaves
 
@@ -96,7 +96,7 @@ loop-ahead-preserved g c =
           c.loop-ahead.invariant.again at c.next_of-anew.ensures).1;
       taken =
           AreTaken-joined piece.bytes.now chunks c.in-Some-fitting.ahead.from w v
-          (step_in c.in_ok-behind.step) one stream_judge
+          (option_to_list c.in_ok-behind.step) one stream_judge
           c.in_ok-stream_judge.stream_judge c.in_ok-stream_judge.ensures
           pieces left piece first c.in_ok-stream_judge-2.stream_judge refl so c.in_ok-stream_judge-2.ensures;
     }

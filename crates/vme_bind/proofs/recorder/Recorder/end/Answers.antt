@@ -6,7 +6,8 @@ use Rattle.vme_trace.specs.Levels.{Levels}
 use Rattle.vme_trace.specs.Trace.{levels_after}
 use Rattle.vme_trace.specs.declared.step.Step.{Step}
 use Rattle.std.specs.Prelude.{List}
-use Rattle.vme_bind.specs.Recording.{RecorderLevels, step_between, step_in}
+use Rattle.std.specs.Option.{option_to_list}
+use Rattle.vme_bind.specs.Recording.{RecorderLevels, step_between}
 use Rattle.vme_bind.proofs.SpeculativeReadingLemmas.{levels_after-ended_steps}
 use Rattle.vme_bind.proofs.recorder.Recorder.end.Goals as goal
 
@@ -14,8 +15,8 @@ use Rattle.vme_bind.proofs.recorder.Recorder.end.Goals as goal
 -- the levels that are shown then
 IfOk-levels_after : (v : Levels) (steps : List Step) (q r : RecorderLevels) (result : Result (Option Step) AllocError)
     → levels_after v steps ≡ r.shown
-    → IfOk result (λ step. step_in step ≡ steps) → OnOk result (q ≡ r)
-    → IfOk result (λ step. levels_after v (step_in step) ≡ q.shown)
+    → IfOk result (λ step. option_to_list step ≡ steps) → OnOk result (q ≡ r)
+    → IfOk result (λ step. levels_after v (option_to_list step) ≡ q.shown)
 IfOk-levels_after v steps q r (Ok step) leads is to = ap (levels_after v) is ∙ leads
     ∙ sym (ap (λ (p : RecorderLevels). p.shown) to)
 IfOk-levels_after v steps q r (Err fault) leads is to = is

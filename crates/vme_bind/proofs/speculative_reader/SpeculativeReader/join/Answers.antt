@@ -1,11 +1,12 @@
 -- The reader after a piece that was read ahead is well formed, and joins the text so far and the piece.
 use Rattle.std.proofs.Common.{◌≡◌, ◌∙◌, Option, Some, None, ap, refl, rules, subst, sym, ℕ}
+use Rattle.std.specs.Option.{option_to_list}
 use Rattle.vcd_read.specs.DetachedPieces.{ReadDetached, read_detached}
 use Rattle.vcd_read.specs.Reached.{Reached, reached}
 use Rattle.vcd_read.specs.DetachedPieces.{entered}
 use Rattle.vme_trace.specs.Levels.{Levels}
 use Rattle.vme_bind.specs.NetLines.{line_bits_of}
-use Rattle.vme_bind.specs.Recording.{AreLines, RecorderLevels, end_of, step_in}
+use Rattle.vme_bind.specs.Recording.{AreLines, RecorderLevels, end_of}
 use Rattle.vme_bind.specs.SpeculativeReading.{ReadSpeculatively, SpeculativeReached}
 use Rattle.vme_bind.proofs.SpeculativeReadingLemmas.{ahead_of, IsJoined-by_fields, speculative_of}
 use Rattle.vme_bind.proofs.speculative_reader.SpeculativeReader.join.Goals as goal
@@ -40,6 +41,6 @@ returns c =
     IsJoined-by_fields bytes recorded c.args.self c.args.ahead inside.fault inside.line_bits inside.recorder
     ahead.recorder r
     (reached (λ p. tt {0}) c.join-body_reader.result.0) ahead.from u
-    ahead.assigned view seen is c.requires c.ended_by.result (step_in c.in_ok-step.step) c.end.new.self
+    ahead.assigned view seen is c.requires c.ended_by.result (option_to_list c.in_ok-step.step) c.end.new.self
     c.ended_by.ensures c.join-body_reader.ensures.behind
     c.in_ok-step.ensures.step c.in_ok-step.ensures.ended c.in_ok-step.ensures.leads

@@ -4,7 +4,7 @@ use Rattle.std.specs.Prelude.{IfOk, None, Option, Result, Ok, Err}
 use Rattle.std.specs.Option.{option_to_list}
 use Rattle.vme_trace.specs.WellFormed.{malformed_step}
 use Rattle.vme_trace.specs.declared.step.Step.{Step}
-use Rattle.vme_bind.specs.Recording.{step_between, step_in}
+use Rattle.vme_bind.specs.Recording.{step_between}
 use Rattle.vme_skew.specs.Group.{GroupLevels}
 use Rattle.vme_skew.specs.Settled.{settled}
 use Rattle.vme_skew.specs.Settling.{KeepsGroup, Settling}
@@ -15,7 +15,7 @@ use Rattle.vme_skew.proofs.step_settler.StepSettler.end.Goals as goal
 -- recording
 steps-at_end : {E : Type 0} (s : Settling) (is_begun : Bool) (group : GroupLevels) → KeepsGroup s is_begun group
     → (r : Result (Option Step) E)
-    → IfOk r (λ (made : Option Step). step_in made ≡ step_between group.start group.before group.now)
+    → IfOk r (λ (made : Option Step). option_to_list made ≡ step_between group.start group.before group.now)
     → IfOk r (λ (made : Option Step). malformed_step s.given ≡ None → s.in_order ≡ true
     → s.out ++ option_to_list made ≡ (settled s.skew s.given).steps)
 steps-at_end s is_begun group h (Ok made) is =
