@@ -18,10 +18,9 @@ pub record WorkedGroups : Type 0 where
 abbrev pub from_high : List Step → Trace
 from_high steps = record { opening = record { slots = 1; levels = replicate line_count High }; steps = steps }
 
--- each of these recordings settles to the steps that it names
-abbrev pub AllSettle : List WorkedGroups → Type 0
-AllSettle [] = Unit {0}
-AllSettle (w ∷ ws) = (settled w.skew (from_high w.steps) ≡ from_high w.settled) × AllSettle ws
+-- the recording settles to the steps that it names
+abbrev pub Settles : WorkedGroups → Type 0
+Settles w = settled w.skew (from_high w.steps) ≡ from_high w.settled
 
 abbrev to : ℕ → Level → Change
 to l x = record { line = l; level = x }
@@ -131,11 +130,9 @@ pub record WorkedTime : Type 0 where
   pub time : ℕ
   pub complete : List Step
 
--- of each of these recordings the steps that it names are complete
-abbrev pub AllComplete : List WorkedTime → Type 0
-AllComplete [] = Unit {0}
-AllComplete (w ∷ ws) =
-    (settled_until w.skew w.time (from_high w.steps) ≡ from_high w.complete) × AllComplete ws
+-- of the recording the steps that it names are complete
+abbrev pub HasComplete : WorkedTime → Type 0
+HasComplete w = settled_until w.skew w.time (from_high w.steps) ≡ from_high w.complete
 
 abbrev first_group : List Step
 first_group = at 10 (low AS ∷ low DTACK ∷ []) ∷ []

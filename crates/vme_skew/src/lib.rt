@@ -50,7 +50,7 @@ ghost use Rattle.vme_trace.specs.Trace.{Trace, levels_after, levels_at};
 ghost use Rattle.vme_trace.specs.declared.step.Step.{Step};
 ghost use Rattle.vme_skew.specs.Settled.{AreFrom, IsPrefixOf, IsRecording, settled, settled_until, step_to};
 ghost use Rattle.vme_skew.specs.Settled.{steps_before};
-ghost use Rattle.vme_skew.specs.Worked.{AllComplete, AllSettle, worked, worked_times};
+ghost use Rattle.vme_skew.specs.Worked.{HasComplete, Settles, worked, worked_times};
 
 mod group;
 mod settling_visitor;
@@ -106,6 +106,6 @@ pub fn settled_until_by_zero()
 
 /// Worked recordings at the bounds of groups, and times at which groups are complete.
 pub fn worked_recordings()
-    ensures settle { AllSettle worked }
-    ensures complete { AllComplete worked_times }
+    ensures settle { All Settles worked }
+    ensures complete { All HasComplete worked_times }
 {}
