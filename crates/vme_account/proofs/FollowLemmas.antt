@@ -19,7 +19,7 @@ use Rattle.vme_monitor.specs.declared.mark.MarkKind.{MarkKind}
 use Rattle.vme_monitor.specs.declared.mark.StepMarks.{StepMarks}
 use Rattle.vme_monitor.specs.declared.view.StepView.{StepView}
 use Rattle.vme_trace.specs.Levels.{Levels}
-use Rattle.vme_trace.specs.Trace.{Trace, after, changed, levels_after, levels_at, time_at, time_of}
+use Rattle.vme_trace.specs.Trace.{Trace, after, changed, levels_after, levels_at, recorded, time_at, time_of}
 use Rattle.vme_trace.specs.declared.step.Change.{Change}
 use Rattle.vme_trace.specs.declared.step.Step.{Step}
 use Rattle.vme_trace.specs.declared.verdict.Break.{Break}
@@ -27,7 +27,7 @@ use Rattle.vme_trace.proofs.CutBlocks.{levels_at-taken}
 use Rattle.vme_trace.proofs.WellFormedSteps.{levels_at-step, time_at-step}
 use Rattle.vme_trace.proofs.ListLaws.{slice_get-here}
 use Rattle.vme_account.proofs.ReachedLemmas.{reached-more}
-use Rattle.vme_account.specs.FollowedSteps.{AreNotesAtOpening, AreNotesOfStep, FollowsSteps, recorded}
+use Rattle.vme_account.specs.FollowedSteps.{AreNotesAtOpening, AreNotesOfStep, FollowsSteps}
 use Rattle.vme_account.specs.KnownTimes.{AreTimes}
 use Rattle.vme_account.specs.Marked.{marked, marked_next, nothing_marked}
 use Rattle.vme_account.specs.StepsReached.{StepsReached, judged, marks_in, passed, reached, reached_at, with_step}

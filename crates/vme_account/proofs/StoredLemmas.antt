@@ -5,10 +5,9 @@ use Rattle.std.specs.Prelude.{slice_get}
 use Rattle.std.proofs.lemmas.List.{take-append-le}
 use Rattle.std.proofs.lemmas.List.FromFn.{map-range_with_len_more}
 use Rattle.vme_trace.specs.Levels.{Levels}
-use Rattle.vme_trace.specs.Trace.{Trace, levels_after, levels_at, time_at, time_of}
+use Rattle.vme_trace.specs.Trace.{Trace, levels_after, levels_at, recorded, time_at, time_of}
 use Rattle.vme_trace.specs.declared.step.Step.{Step}
 use Rattle.vme_trace.proofs.CutBlocks.{levels_at-taken}
-use Rattle.vme_account.specs.FollowedSteps.{recorded}
 use Rattle.vme_account.specs.StoredSteps.{AreStored}
 use Rattle.vme_account.specs.RecentSteps.{AreRecent, levels_of}
 use Rattle.vme_account.specs.declared.stored_steps.StoredSteps.{StoredSteps}

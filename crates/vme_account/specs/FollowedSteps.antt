@@ -6,7 +6,7 @@ use Rattle.vme_auditor.specs.declared.memories.AllShown.{AllShown}
 use Rattle.vme_monitor.specs.Run.{break_of_fault, kinds_of, mark_at}
 use Rattle.vme_summary.specs.MarkedRows.{opening_marks}
 use Rattle.vme_trace.specs.Levels.{Levels}
-use Rattle.vme_trace.specs.Trace.{Trace, levels_at, time_at}
+use Rattle.vme_trace.specs.Trace.{Trace, levels_at, recorded, time_at}
 use Rattle.vme_trace.specs.declared.step.Step.{Step}
 use Rattle.vme_account.specs.KnownTimes.{AreTimes}
 use Rattle.vme_account.specs.Marked.{marked, marked_next}
@@ -14,10 +14,6 @@ use Rattle.vme_account.specs.StepsReached.{reached}
 use Rattle.vme_account.specs.StretchEvents.{AreEvents}
 use Rattle.vme_account.specs.declared.followed_steps.FollowedSteps.{FollowedSteps}
 use Rattle.vme_account.specs.declared.step_notes.StepNotes.{StepNotes}
-
--- the recording with the opening levels o and the steps x
-abbrev pub recorded : Levels → List Step → Trace
-recorded o x = record { opening = o; steps = x }
 
 -- ---- what is noted
 

@@ -12,7 +12,7 @@ use Rattle.vme_trace.specs.Instants.{any}
 use Rattle.vme_trace.specs.Judged.{Stretch, has_any_stretch, judged_stretches}
 use Rattle.vme_trace.specs.Levels.{Levels}
 use Rattle.vme_trace.specs.Rules.{all_rules, ends_stretch}
-use Rattle.vme_trace.specs.Trace.{Trace, changed, levels_after, levels_at}
+use Rattle.vme_trace.specs.Trace.{Trace, changed, levels_after, levels_at, recorded}
 use Rattle.vme_trace.specs.Verdict.{judge, verdict, verdict_by}
 use Rattle.vme_trace.specs.WellFormed.{malformed_step}
 use Rattle.vme_trace.specs.declared.rule.Rule.{Rule}
@@ -48,7 +48,6 @@ use Rattle.vme_auditor.proofs.AskedSteps.{known_phase, phase_at}
 use Rattle.vme_auditor.proofs.AskedSteps.{asks_by-with_stretch, stretch-asked_to}
 use Rattle.vme_auditor.proofs.FirstBreaks.{BreakWithin-first_break}
 use Rattle.vme_auditor.proofs.ReturnedBreaks.{FindsFirst, levels_at-later_step, memories_after, memories-with_step}
-use Rattle.vme_auditor.proofs.ReturnedBreaks.{recorded}
 use Rattle.vme_auditor.proofs.ReturnedBreaks.{slots-rest_after, well_formed-rest_after}
 use Rattle.vme_auditor.proofs.Truth.{or_fails}
 

@@ -10,7 +10,7 @@ use Rattle.std.specs.Prelude.{flat_map}
 use Rattle.std.specs.List.{fold}
 use Rattle.std.specs.Option.{option_map, option_map_or, option_or}
 use Rattle.vme_trace.specs.Levels.{Levels}
-use Rattle.vme_trace.specs.Trace.{levels_at, time_at}
+use Rattle.vme_trace.specs.Trace.{levels_at, recorded, time_at}
 use Rattle.vme_trace.specs.WellFormed.{malformed_step}
 use Rattle.vme_trace.specs.declared.step.Step.{Step}
 use Rattle.vme_trace.specs.declared.verdict.Break.{Break}
@@ -37,7 +37,7 @@ use Rattle.vme_auditor.proofs.MarkHangs.{has_reset, Hangs-marks}
 use Rattle.vme_auditor.proofs.PartRows.{CountAlike, ShowsMarks, marks_before-steps, CountAlike-part}
 use Rattle.vme_auditor.proofs.TalliedSteps.{unbroken_tally-marks, unbroken_tally, tally_by, tally_by-first_break}
 use Rattle.vme_auditor.proofs.TalliedSteps.{tally_around_break}
-use Rattle.vme_auditor.proofs.ReturnedBreaks.{FindsFirst, recorded, slots-rest_after, well_formed-rest_after}
+use Rattle.vme_auditor.proofs.ReturnedBreaks.{FindsFirst, slots-rest_after, well_formed-rest_after}
 
 -- the number of rows of `xs ++ ys` that `is` holds of is the sum of those of `xs` and of `ys`
 count_of-append : (is : Row → Bool) (xs ys : List Row) → count_of is (xs ++ ys) ≡ count_of is xs + count_of is ys

@@ -3,7 +3,7 @@ use Rattle.std.proofs.Common.{◌≡◌, ℕ, ◌+◌, ◌≤◌, List, [], ◌�
 use Rattle.std.specs.List.{fold}
 use Rattle.std.specs.Option.{option_to_list}
 use Rattle.vme_trace.specs.Levels.{Levels}
-use Rattle.vme_trace.specs.Trace.{Trace, changed}
+use Rattle.vme_trace.specs.Trace.{changed, recorded}
 use Rattle.vme_trace.specs.WellFormed.{malformed_step}
 use Rattle.vme_trace.specs.declared.step.Change.{Change}
 use Rattle.vme_trace.specs.declared.step.Step.{Step}
@@ -35,10 +35,6 @@ pub HasAudited-opening : (o : Levels) (v : StepView) (a : Audit) → v.before �
 unfolding reached_after
 HasAudited-opening o v a before after begun =
     record { counted = refl; instant = refl; before = before; after = after; audit_is = begun }
-
--- the recording of the steps `x` after the opening `o`
-abbrev recorded : Levels → List Step → Trace
-recorded o x = record { opening = o; steps = x }
 
 -- one more step `s`: the view is advanced to it from the levels so far
 module _ (o : Levels) (x : List Step) (s : Step) (n : ℕ) (v : StepView) (a : Audit) (k : HasAudited o x n v a)

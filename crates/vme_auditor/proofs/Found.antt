@@ -3,7 +3,7 @@ use Rattle.std.proofs.Common.{◌≡◌, ℕ, ◌+◌, ◌-◌, ◌^◌, ◌≤�
 use Rattle.std.proofs.Common.{arith, Option, None, Some}
 use Rattle.std.specs.Option.{option_map}
 use Rattle.vme_trace.specs.Levels.{Levels}
-use Rattle.vme_trace.specs.Trace.{Trace}
+use Rattle.vme_trace.specs.Trace.{Trace, recorded}
 use Rattle.vme_trace.specs.WellFormed.{malformed_step}
 use Rattle.vme_trace.specs.declared.rule.Rule.{Rule}
 use Rattle.vme_trace.specs.declared.rule.Rule.TheVariants as rule
@@ -31,7 +31,7 @@ use Rattle.vme_auditor.proofs.MarkCounts.{sum_of-nothing}
 use Rattle.vme_auditor.proofs.PartRows.{ShowsMarks}
 use Rattle.vme_auditor.proofs.TalliedSteps.{tally-after_steps, tally_by}
 use Rattle.vme_auditor.proofs.TallyBounds.{Fits, IsExact, pending_exact, tally_exact}
-use Rattle.vme_auditor.proofs.ReturnedBreaks.{FindsFirst, recorded, breaks-returned}
+use Rattle.vme_auditor.proofs.ReturnedBreaks.{FindsFirst, breaks-returned}
 
 -- no rule is asked before a recording
 asks_by-nothing : (r : Rule) → asks_by nothing_happened r ≡ false

@@ -6,7 +6,7 @@ use Rattle.std.proofs.lemmas.List.{length-drop}
 use Rattle.std.specs.List.{fold}
 use Rattle.std.specs.Option.{option_map, option_map_or}
 use Rattle.vme_trace.specs.Levels.{Levels}
-use Rattle.vme_trace.specs.Trace.{changed, levels_at}
+use Rattle.vme_trace.specs.Trace.{changed, levels_at, recorded}
 use Rattle.vme_trace.specs.WellFormed.{malformed_step}
 use Rattle.vme_trace.specs.declared.step.Step.{Step}
 use Rattle.vme_trace.specs.declared.verdict.Break.{Break}
@@ -25,7 +25,6 @@ use Rattle.vme_auditor.proofs.AskedParts.{KnowsStart, known-unbroken, unbroken_m
 use Rattle.vme_auditor.proofs.CountedParts.{last_from-parts}
 use Rattle.vme_auditor.proofs.FirstBreaks.{BreakWithin-first_break}
 use Rattle.vme_auditor.proofs.ReturnedBreaks.{FindsFirst, levels_at-later_step, memories_after, memories-with_step}
-use Rattle.vme_auditor.proofs.ReturnedBreaks.{recorded}
 use Rattle.vme_auditor.proofs.ReturnedBreaks.{slots-rest_after, well_formed-rest_after}
 
 -- the memories of the monitors after steps `x`, where they start anew at each break

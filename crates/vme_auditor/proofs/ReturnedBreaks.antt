@@ -5,7 +5,7 @@ use Rattle.std.proofs.lemmas.List.{length-drop, take-append-drop}
 use Rattle.std.specs.List.{fold}
 use Rattle.std.specs.Option.{option_map, option_map_or, option_to_list}
 use Rattle.vme_trace.specs.Levels.{Levels}
-use Rattle.vme_trace.specs.Trace.{Trace, changed, levels_after, levels_at}
+use Rattle.vme_trace.specs.Trace.{Trace, changed, levels_after, levels_at, recorded}
 use Rattle.vme_trace.specs.Verdict.{verdict}
 use Rattle.vme_trace.specs.WellFormed.{malformed_step}
 use Rattle.vme_trace.specs.declared.step.Step.{Step}
@@ -24,10 +24,6 @@ use Rattle.vme_auditor.specs.FirstBreak.{first_break_from}
 use Rattle.vme_auditor.specs.Memories.{fault_at, first_fault_of, memories_at, memories_next}
 use Rattle.vme_auditor.specs.declared.memories.Memories.{Memories}
 use Rattle.vme_auditor.proofs.FirstBreaks.{BreakWithin-first_break}
-
--- the recording of the steps `x` after the opening `o`
-abbrev pub recorded : Levels → List Step → Trace
-recorded o x = record { opening = o; steps = x }
 
 -- the memories after a step: at a break they start anew
 abbrev pub memories_after : Option Fault → Levels → Memories → Memories

@@ -7,7 +7,7 @@ use Rattle.std.specs.List.{fold}
 use Rattle.std.proofs.lemmas.List.Sums.{fold-append}
 use Rattle.std.specs.Option.{option_map, option_map_or, option_to_list}
 use Rattle.vme_trace.specs.Levels.{Levels}
-use Rattle.vme_trace.specs.Trace.{changed, levels_at, time_of}
+use Rattle.vme_trace.specs.Trace.{changed, levels_at, recorded, time_of}
 use Rattle.vme_trace.specs.declared.data.Lanes.{Lanes}
 use Rattle.vme_trace.specs.declared.step.Step.{Step}
 use Rattle.vme_trace.specs.declared.verdict.Break.{Break}
@@ -35,7 +35,7 @@ use Rattle.vme_auditor.specs.declared.tally.Tally.{Tally}
 use Rattle.vme_auditor.proofs.FirstBreaks.{BreakWithin-first_break}
 use Rattle.vme_auditor.proofs.MarkCounts.{kind_tallied, mark_tallied}
 use Rattle.vme_auditor.proofs.ShownKinds.{OfTenure-grant, OfTransfer-handshake, OfStretch-known}
-use Rattle.vme_auditor.proofs.ReturnedBreaks.{levels_at-later_step, memories_after, memories-with_step, recorded}
+use Rattle.vme_auditor.proofs.ReturnedBreaks.{levels_at-later_step, memories_after, memories-with_step}
 
 -- what the kinds of one instant add, one by one
 module _ (at : ℕ → StartedTransfer) (i : ℕ) where

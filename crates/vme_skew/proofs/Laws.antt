@@ -11,7 +11,7 @@ use Rattle.vme_trace.specs.Changes.{is_changed}
 use Rattle.vme_trace.specs.Instants.{any}
 use Rattle.vme_trace.specs.Levels.{Levels, level_at}
 use Rattle.vme_trace.specs.LineNumbers.{line_count, has_line}
-use Rattle.vme_trace.specs.Trace.{Trace, after, changed, levels_after, levels_at, time_at, time_of}
+use Rattle.vme_trace.specs.Trace.{Trace, after, changed, levels_after, levels_at, recorded, time_at, time_of}
 use Rattle.vme_trace.specs.WellFormed.{are_changes, fits, is_empty, is_step, malformed_step, may_follow}
 use Rattle.vme_trace.specs.declared.step.Change.{Change}
 use Rattle.vme_trace.specs.declared.step.Step.{Step}
@@ -319,15 +319,11 @@ settled-zero_skew t is =
 
 -- ---- a settled recording is well formed
 
--- the recording with this opening and these steps
-abbrev of_steps : Levels → List Step → Trace
-of_steps o xs = record { opening = o; steps = xs }
-
 -- the steps `xs` after the opening `o` are well formed, and lead to the levels `v` and the time `clock`
 record AreFormed (o : Levels) (xs : List Step) (v : Levels) (clock : ℕ) : Type 0 where
-  sound : any (λ i. not (is_step (of_steps o xs) i)) 0 (length xs) ≡ false
-  left : levels_at (of_steps o xs) (length xs) ≡ v
-  time : time_at (of_steps o xs) (length xs) ≡ clock
+  sound : any (λ i. not (is_step (recorded o xs) i)) 0 (length xs) ≡ false
+  left : levels_at (recorded o xs) (length xs) ≡ v
+  time : time_at (recorded o xs) (length xs) ≡ clock
 
 -- a list has one element more with one appended
 pub length-append_one : (xs : List Step) (step : Step) → length (xs ++ step ∷ []) ≡ suc (length xs)
@@ -336,20 +332,20 @@ length-append_one (x ∷ xs) step = ap suc (length-append_one xs step)
 
 -- whether step i may follow those before it doesn't depend on a later step
 pub is_step-append : (o : Levels) (xs : List Step) (step : Step) (i : ℕ) → i < length xs
-    → is_step (of_steps o (xs ++ step ∷ [])) i ≡ is_step (of_steps o xs) i
+    → is_step (recorded o (xs ++ step ∷ [])) i ≡ is_step (recorded o xs) i
 unfolding is_step
 is_step-append o xs step i lt =
-    let t : Trace = of_steps o xs in
-    let u : Trace = of_steps o (xs ++ step ∷ []) in
+    let t : Trace = recorded o xs in
+    let u : Trace = recorded o (xs ++ step ∷ []) in
     ap (fits u i) (slice_get-append xs (step ∷ []) i lt) ∙ by_step (slice_get xs i)
   where
-    by_step : (found : Option Step) → fits (of_steps o (xs ++ step ∷ [])) i found ≡ fits (of_steps o xs) i found
+    by_step : (found : Option Step) → fits (recorded o (xs ++ step ∷ [])) i found ≡ fits (recorded o xs) i found
     by_step None = refl
     by_step (Some s) =
-        ap (λ (v : Levels). may_follow v i (time_at (of_steps o (xs ++ step ∷ [])) i) s)
-        (levels_at-with_step (of_steps o xs) step i (omega (arith, lt)))
-        ∙ ap (λ (clock : ℕ). may_follow (levels_at (of_steps o xs) i) i clock s)
-        (time_at-with_step (of_steps o xs) step i (omega (arith, lt)))
+        ap (λ (v : Levels). may_follow v i (time_at (recorded o (xs ++ step ∷ [])) i) s)
+        (levels_at-with_step (recorded o xs) step i (omega (arith, lt)))
+        ∙ ap (λ (clock : ℕ). may_follow (levels_at (recorded o xs) i) i clock s)
+        (time_at-with_step (recorded o xs) step i (omega (arith, lt)))
 
 -- well-formed steps with one more, which may follow them, are well formed, and lead on by its changes to its time
 AreFormed-append : (o : Levels) (xs : List Step) (v : Levels) (clock : ℕ) (step : Step) → AreFormed o xs v clock
@@ -364,10 +360,10 @@ AreFormed-append o xs v clock step h may = record {
 }
   where
     t : Trace
-    t = of_steps o xs
+    t = recorded o xs
 
     u : Trace
-    u = of_steps o (xs ++ step ∷ [])
+    u = recorded o (xs ++ step ∷ [])
 
     last : is_step u (length xs) ≡ true
     last =
@@ -485,5 +481,5 @@ pub IsRecording-settled : (skew : ℕ) (t : Trace) → IsRecording t → IsRecor
 unfolding settled malformed_step
 IsRecording-settled skew t is =
     let all = UpTo-BeforeGroup skew t is (length t.steps) (BeforeGroup-instant skew t is (length t.steps)) in
-    let u : Trace = of_steps t.opening (steps_before skew t (length t.steps) ++ step_to skew t (length t.steps)) in
+    let u : Trace = recorded t.opening (steps_before skew t (length t.steps) ++ step_to skew t (length t.steps)) in
     record { whole = is.whole; formed = least-none (λ i. not (is_step u i)) 0 (length u.steps) all.formed.sound }

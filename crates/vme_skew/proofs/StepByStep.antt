@@ -25,10 +25,6 @@ ChangeLines-are_changes v k (c ∷ cs) h =
     (record { below = below-has_line v.slots c.line is.exists; exists = is.exists })
     (ChangeLines-are_changes v (c.line + 1) cs is.rest)
 
--- the recording with this opening and these steps
-abbrev pub of_parts : Levels → List Step → Trace
-of_parts opening steps = record { opening = opening; steps = steps }
-
 module _ (skew : ℕ) (t : Trace) where
   -- the changes of step i lead from the levels at instant i to those at the next
   levels_at-next : (i : ℕ) (step : Step) (v : Levels) → v ≡ levels_at t i → slice_get t.steps i ≡ Some step

@@ -3,11 +3,11 @@ use Rattle.vme_auditor.specs.declared.memories.Memories.{Memories}
 use Rattle.vme_monitor.specs.OverStretches.{has_started}
 use Rattle.vme_summary.specs.Runs.{known_run}
 use Rattle.vme_trace.specs.Levels.{Levels}
+use Rattle.vme_trace.specs.Trace.{recorded}
 use Rattle.vme_trace.specs.declared.step.Step.{Step}
 use Rattle.vme_account.proofs.AccountLemmas.{count_by-recorded, found-named_break, open_row-recorded}
 use Rattle.vme_account.proofs.AccountLemmas.{has_started-reached}
 use Rattle.vme_account.proofs.FollowLemmas.{levels_at-last}
-use Rattle.vme_account.specs.FollowedSteps.{recorded}
 use Rattle.vme_account.specs.KnownTimes.{AreTimes}
 use Rattle.vme_account.specs.StepsReached.{reached}
 use Rattle.vme_account.specs.StretchEvents.{AreEvents}

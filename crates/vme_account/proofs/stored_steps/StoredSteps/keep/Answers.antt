@@ -1,6 +1,6 @@
 use Rattle.std.proofs.Common.{◌+◌, arith, refl}
+use Rattle.vme_trace.specs.Trace.{recorded}
 use Rattle.vme_account.proofs.StoredLemmas.{AreRecent-all_kept, AreStored-kept}
-use Rattle.vme_account.specs.FollowedSteps.{recorded}
 use Rattle.vme_account.proofs.stored_steps.StoredSteps.keep.Goals as goal
 
 pub push-requires : goal.push-requires

@@ -1,8 +1,8 @@
 use Rattle.std.proofs.Common.{◌+◌, ◌-◌, ◌∙◌, arith}
 use Rattle.std.proofs.lemmas.Result.{IfOk-weaker}
 use Rattle.vme_account.proofs.StoredLemmas.{levels_of-cut}
-use Rattle.vme_account.specs.FollowedSteps.{recorded}
 use Rattle.std.specs.Prelude.{take}
+use Rattle.vme_trace.specs.Trace.{recorded}
 use Rattle.vme_account.proofs.stored_steps.StoredSteps.levels_from.Goals as goal
 
 pub returns-then-first : goal.returns-then-first

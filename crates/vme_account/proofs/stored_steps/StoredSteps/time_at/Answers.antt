@@ -1,7 +1,7 @@
 use Rattle.std.proofs.Common.{◌∙◌}
 use Rattle.std.specs.Prelude.{take}
+use Rattle.vme_trace.specs.Trace.{recorded}
 use Rattle.vme_account.proofs.StoredLemmas.{time_at-cut}
-use Rattle.vme_account.specs.FollowedSteps.{recorded}
 use Rattle.vme_account.proofs.stored_steps.StoredSteps.time_at.Goals as goal
 
 pub returns : goal.returns
