@@ -1,5 +1,5 @@
 -- Which rows of a listing are counted, and which are open where it ends.
-use Rattle.std.specs.Prelude.{ℕ, Bool, true, false, ◌&&◌, ◌==◌, not, Option, None, Some, is_some, if◌then◌else◌}
+use Rattle.std.specs.Prelude.{ℕ, Bool, true, false, ◌&&◌, ◌==◌, Option, None, Some, is_none, if◌then◌else◌}
 use Rattle.vme_listing.specs.Places.{is_reset}
 use Rattle.vme_listing.specs.declared.row.AnswerLine.{AnswerLine}
 use Rattle.vme_listing.specs.declared.row.AnswerLine.TheVariants.{Dtack, Berr}
@@ -77,26 +77,22 @@ is_of kind.Resets r = is_reset r
 
 -- ---- what is open
 
--- there is no end at a listed instant
-abbrev pub has_no_end : Option ℕ → Bool
-has_no_end end = not (is_some end)
-
 -- the row is a tenure without an end
 abbrev pub is_tenure_open : Row → Bool
-is_tenure_open (row.OpenTenure start end) = has_no_end end
-is_tenure_open (row.Tenure start level slot end) = has_no_end end
+is_tenure_open (row.OpenTenure start end) = is_none end
+is_tenure_open (row.Tenure start level slot end) = is_none end
 is_tenure_open r = false
 
 -- the row is a cycle without an end
 abbrev pub is_cycle_open : Row → Bool
-is_cycle_open (row.AddressedCycle start class modifier address end) = has_no_end end
-is_cycle_open (row.FreeCycle start modifier end) = has_no_end end
-is_cycle_open (row.InterruptCycle start level end) = has_no_end end
+is_cycle_open (row.AddressedCycle start class modifier address end) = is_none end
+is_cycle_open (row.FreeCycle start modifier end) = is_none end
+is_cycle_open (row.InterruptCycle start level end) = is_none end
 is_cycle_open r = false
 
 -- the row is a transfer without an answer or without a close
 abbrev pub is_transfer_open : Row → Bool
-is_transfer_open (row.Transfer direction line start cycle answer close lanes) = has_no_end close
+is_transfer_open (row.Transfer direction line start cycle answer close lanes) = is_none close
 is_transfer_open (row.PendingTransfer start direction) = true
 is_transfer_open r = false
 
