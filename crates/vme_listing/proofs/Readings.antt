@@ -6,9 +6,10 @@ use Rattle.std.specs.Prelude.{Option, None, Some, not, flat_map}
 use Rattle.std.proofs.lemmas.Bool.{and_from, and_parts, false≢true}
 use Rattle.std.proofs.lemmas.Grind.{flat_map-append}
 use Rattle.std.proofs.lemmas.List.{append_assoc, append-nil}
+use Rattle.std.specs.List.{last_or}
 use Rattle.vme_listing.specs.Places.{is_row, is_verdict, is_never_idle, may_follow, ascends, follows, ends_listing}
 use Rattle.vme_listing.specs.Places.{is_rest, is_well_placed}
-use Rattle.vme_listing.specs.Reading.{last_of, are_placed, IsFront, IsRead, IsUnfinished, IsNoRow, IsUnsorted}
+use Rattle.vme_listing.specs.Reading.{are_placed, IsFront, IsRead, IsUnfinished, IsNoRow, IsUnsorted}
 use Rattle.vme_listing.specs.Reading.{IsRowFault}
 use Rattle.vme_listing.specs.Reading.{IsFirstFault}
 use Rattle.vme_listing.specs.Reading.{HasNoListing, IsNoListing, IsOnlyListing, AllBegin, HasRead, IsTextOfListing}
@@ -39,21 +40,21 @@ follows-from_parts version before row p q r = and-from_three (is_row version row
 -- if rows may follow one another, and one more row the last of them, they may do so with it
 are_placed-append : (version : Version) (before : Option Row) (rows : List Row) (row : Row)
     → are_placed version before rows
-    ≡ true → follows version (last_of before rows) row ≡ true → are_placed version before (rows ++ row ∷ []) ≡ true
+    ≡ true → follows version (last_or before rows) row ≡ true → are_placed version before (rows ++ row ∷ []) ≡ true
 are_placed-append version before [] row p f = and_from _ _ f refl
 are_placed-append version before (first ∷ rows) row p f =
     let parts = and_parts (follows version before first) (are_placed version (Some first) rows) p in
     and_from _ _ parts.0 (are_placed-append version (Some first) rows row parts.1 f)
 
 -- the last of some rows and one more is that one
-last_of-append : (before : Option Row) (rows : List Row) (row : Row) → last_of before (rows ++ row ∷ []) ≡ Some row
-last_of-append before [] row = refl
-last_of-append before (first ∷ rows) row = last_of-append (Some first) rows row
+last_or-push : (before : Option Row) (rows : List Row) (row : Row) → last_or before (rows ++ row ∷ []) ≡ Some row
+last_or-push before [] row = refl
+last_or-push before (first ∷ rows) row = last_or-push (Some first) rows row
 
 -- rows that may follow one another, of which the last ends a listing, are the rest of one
 is_rest-from_placed : (version : Version) (before : Option Row) (rows : List Row) → are_placed version before rows
     ≡ true
-    → ends_listing (last_of before rows) ≡ true → is_rest version before rows ≡ true
+    → ends_listing (last_or before rows) ≡ true → is_rest version before rows ≡ true
 unfolding is_rest
 is_rest-from_placed version before [] p e = e
 is_rest-from_placed version before (row ∷ rows) p e =
@@ -70,7 +71,7 @@ flat_map-one_more_line rows row more =
 
 -- where `rows` were read, and the rest begins with the line of a row that may follow, that row was read, too
 pub IsRead-append : (text : List ℕ) (version : Version) (rows : List Row) (rest : List ℕ) (row : Row) (more : List ℕ)
-    → IsRead text version rows rest → follows version (last_of None rows) row ≡ true → IsFront rest row more
+    → IsRead text version rows rest → follows version (last_or None rows) row ≡ true → IsFront rest row more
     → IsRead text version (rows ++ row ∷ []) more
 IsRead-append text version rows rest row more read f e =
     record {
@@ -92,13 +93,13 @@ no_rows-after_verdict version row (next ∷ later) placed verdict =
 
 -- where the rows so far don't end with a verdict, another row follows, and its line is at the start of the rest
 next_row-of_unfinished : (version : Version) (rows : List Row) (rest : List ℕ) → IsUnfinished rows → (others : List Row)
-    → is_rest version (last_of None rows) others ≡ true → flat_map line_of others ≡ rest
-    → (row : Row) × (later : List Row) × (others ≡ row ∷ later) × (follows version (last_of None rows) row ≡ true)
+    → is_rest version (last_or None rows) others ≡ true → flat_map line_of others ≡ rest
+    → (row : Row) × (later : List Row) × (others ≡ row ∷ later) × (follows version (last_or None rows) row ≡ true)
     × (is_rest version (Some row) later ≡ true) × IsFront rest row (flat_map line_of later)
 unfolding is_rest
 next_row-of_unfinished version rows rest unfinished [] placed lines = absurd (false≢true (sym unfinished ∙ placed))
 next_row-of_unfinished version rows rest unfinished (row ∷ later) placed lines =
-    let parts = and_parts (follows version (last_of None rows) row) (is_rest version (Some row) later) placed in
+    let parts = and_parts (follows version (last_or None rows) row) (is_rest version (Some row) later) placed in
     (row, later, refl, parts.0, parts.1, (sym lines, no_rows-after_verdict version row later parts.1))
 
 -- a row in the middle may be taken as the last of the first part
@@ -109,7 +110,7 @@ append-one_more rows row later = sym (append_assoc rows (row ∷ []) later)
 -- follow at the start of the rest, each begins with `rows` and then `row`
 pub AllBegin-append : (text : List ℕ) (version : Version) (rows : List Row) (rest : List ℕ) (row : Row) (more : List ℕ)
     → AllBegin text version rows rest → IsUnfinished rows
-    → ((other : Row) (behind : List ℕ) → follows version (last_of None rows) other ≡ true → IsFront rest other behind
+    → ((other : Row) (behind : List ℕ) → follows version (last_or None rows) other ≡ true → IsFront rest other behind
     → (row ≡ other) × (more ≡ behind)) → AllBegin text version (rows ++ row ∷ []) more
 AllBegin-append text version rows rest row more begin unfinished found all w t =
     let b = begin all w t in
@@ -121,7 +122,7 @@ AllBegin-append text version rows rest row more begin unfinished found all w t =
       others = later;
       split = b.split ∙ ap (λ l. rows ++ l) is ∙ ap (λ r. rows ++ r ∷ later) (sym same.0)
           ∙ append-one_more rows row later;
-      placed = subst (λ r. is_rest version r later ≡ true) (ap Some (sym same.0) ∙ sym (last_of-append None rows row))
+      placed = subst (λ r. is_rest version r later ≡ true) (ap Some (sym same.0) ∙ sym (last_or-push None rows row))
           placed;
       lines = sym same.1;
     }
@@ -131,7 +132,7 @@ AllBegin-append text version rows rest row more begin unfinished found all w t =
 pub HasNoListing-no_row_follows : (text : List ℕ) (version : Version) (rows : List Row) (rest : List ℕ)
     → AllBegin text version rows rest
     → IsUnfinished rows
-    → ((other : Row) (behind : List ℕ) → follows version (last_of None rows) other ≡ true → IsFront rest other behind
+    → ((other : Row) (behind : List ℕ) → follows version (last_or None rows) other ≡ true → IsFront rest other behind
     → ⊥) → HasNoListing text
 HasNoListing-no_row_follows text version rows rest begin unfinished none all w t =
     let b = begin all w t in
@@ -166,7 +167,7 @@ IsOnlyListing-of_AllBegin text version rows rest begin e all w t =
 -- where all was read, and the last row ends a listing, the rows are a well placed listing whose text it is
 pub listed-of_read : (text : List ℕ) (version : Version) (rows : List Row) (rest : List ℕ)
     → IsRead text version rows rest
-    → ends_listing (last_of None rows) ≡ true → rest ≡ []
+    → ends_listing (last_or None rows) ≡ true → rest ≡ []
     → (is_well_placed (listed version rows) ≡ true) × (text_of (listed version rows) ≡ text)
 listed-of_read text version rows rest read end e = (
   is_rest-from_placed version None rows read.placed end,
@@ -204,7 +205,7 @@ module _ (text : List ℕ) (rows : List Row) (old : Unread) (has : HasRead text 
   -- where the verdict was read, the text is that of the listing of the rows
   pub IsTextOfListing-by_last : ends_listing old.last ≡ true → IsTextOfListing text (listed old.version rows)
   IsTextOfListing-by_last h =
-      let end : ends_listing (last_of None rows) ≡ true = ap ends_listing (sym has.last) ∙ h in
+      let end : ends_listing (last_or None rows) ≡ true = ap ends_listing (sym has.last) ∙ h in
       let whole = listed-of_read text old.version rows old.rest has.read end (has.closed end) in
       (whole.0, whole.1, IsOnlyListing-of_AllBegin text old.version rows old.rest has.begin (has.closed end))
 
@@ -225,15 +226,15 @@ module _ (text : List ℕ) (rows : List Row) (old : Unread) (has : HasRead text 
       read = IsRead-append text old.version rows old.rest row more has.read (of row f) front;
       begin = AllBegin-append text old.version rows old.rest row more has.begin (IsUnfinished-by_last unfinished)
           (λ other behind g e. found other behind (back other g) e);
-      closed = λ end. front.1 (ap ends_listing (sym (last_of-append None rows row)) ∙ end);
-      last = sym (last_of-append None rows row);
+      closed = λ end. front.1 (ap ends_listing (sym (last_or-push None rows row)) ∙ end);
+      last = sym (last_or-push None rows row);
       count = ap (λ n. n + 1) has.count ∙ sym (length-append rows (row ∷ []));
     }
       where
-        of : (r : Row) → follows old.version old.last r ≡ true → follows old.version (last_of None rows) r ≡ true
+        of : (r : Row) → follows old.version old.last r ≡ true → follows old.version (last_or None rows) r ≡ true
         of r h = subst (λ o. follows old.version o r ≡ true) has.last h
 
-        back : (r : Row) → follows old.version (last_of None rows) r ≡ true → follows old.version old.last r ≡ true
+        back : (r : Row) → follows old.version (last_or None rows) r ≡ true → follows old.version old.last r ≡ true
         back r h = subst (λ o. follows old.version o r ≡ true) (sym has.last) h
 
     -- the fault of the next row is the first of the text, where no row that may follow is at the start of the rest
@@ -249,7 +250,7 @@ module _ (text : List ℕ) (rows : List Row) (old : Unread) (has : HasRead text 
     )
 
     -- if no row may follow the last row that was read, none may follow the rows
-    IsNoRow-after_rows : IsNoRow old.version old.last old.rest → IsNoRow old.version (last_of None rows) old.rest
+    IsNoRow-after_rows : IsNoRow old.version old.last old.rest → IsNoRow old.version (last_or None rows) old.rest
     IsNoRow-after_rows h = subst (λ o. IsNoRow old.version o old.rest) has.last h
 
     -- if no row that may follow by its form is at the start of the rest, the fault of the text is that the next row is

@@ -1,6 +1,7 @@
 -- The result of reading a text: the listing whose text it is, or the first fault from the top.
 use Rattle.std.specs.Prelude.{◌≡◌, ◌≢◌, ℕ, ◌+◌, Bool, true, false, ◌&&◌, List, [], ◌∷◌, ◌++◌, length, flat_map}
 use Rattle.std.specs.Prelude.{Option, None, Some}
+use Rattle.std.specs.List.{last_or}
 use Rattle.vme_listing.specs.declared.fault.ListFault.{ListFault}
 use Rattle.vme_listing.specs.declared.fault.ListFault.TheVariants.{BadHeader, BadRow, Unsorted, Memory}
 use Rattle.vme_listing.specs.declared.row.Row.{Row}
@@ -9,11 +10,6 @@ use Rattle.vme_listing.specs.Listed.{Listed}
 use Rattle.vme_listing.specs.Places.{is_row, is_verdict, may_follow, ascends, follows, ends_listing, is_rest}
 use Rattle.vme_listing.specs.Places.{is_well_placed}
 use Rattle.vme_listing.specs.RowText.{header, line_of, text_of}
-
--- the last row of the list, or `before` if the list is empty
-abbrev pub last_of : Option Row → List Row → Option Row
-last_of before [] = before
-last_of before (row ∷ rows) = last_of (Some row) rows
 
 -- each row may follow the one before it, the first one the row `before`
 abbrev pub are_placed : Version → Option Row → List Row → Bool
@@ -32,7 +28,7 @@ IsFront text row more = (text ≡ line_of row ++ more) × (is_verdict row ≡ tr
 
 -- the last of the rows isn't the verdict
 abbrev pub IsUnfinished : List Row → Type 0
-IsUnfinished rows = ends_listing (last_of None rows) ≡ false
+IsUnfinished rows = ends_listing (last_or None rows) ≡ false
 
 -- the rest begins with no line of a row that by its form may follow the row before
 abbrev pub IsNoRow : Version → Option Row → List ℕ → Type 0
@@ -48,8 +44,8 @@ IsUnsorted version before rest =
 -- the row after `rows`, which should be at the start of the rest, has this fault
 abbrev pub IsRowFault : Version → List Row → List ℕ → ListFault → Type 0
 IsRowFault version rows rest BadHeader = ⊥
-IsRowFault version rows rest (BadRow n) = (n ≡ length rows + 1) × IsNoRow version (last_of None rows) rest
-IsRowFault version rows rest (Unsorted n) = (n ≡ length rows + 1) × IsUnsorted version (last_of None rows) rest
+IsRowFault version rows rest (BadRow n) = (n ≡ length rows + 1) × IsNoRow version (last_or None rows) rest
+IsRowFault version rows rest (Unsorted n) = (n ≡ length rows + 1) × IsUnsorted version (last_or None rows) rest
 IsRowFault version rows rest Memory = ⊥
 
 -- `rows` were read, and may follow one another; the last of them isn't a verdict, and the next row has the fault
@@ -89,7 +85,7 @@ pub record Begins (text : List ℕ) (version : Version) (rows : List Row) (rest 
   pub same : all.version ≡ version
   pub others : List Row
   pub split : all.rows ≡ rows ++ others
-  pub placed : is_rest version (last_of None rows) others ≡ true
+  pub placed : is_rest version (last_or None rows) others ≡ true
   pub lines : flat_map line_of others ≡ rest
 
 -- each well placed listing that has this text is of this version and begins with `rows`, and `rest` is the text of its
@@ -124,8 +120,8 @@ IsFollowedBy is_rest future = is_rest ≡ true → future ≡ []
 pub record HasRead (text : List ℕ) (rows : List Row) (unread : Unread) : Type 0 where
   pub read : IsRead text unread.version rows unread.rest
   pub begin : AllBegin text unread.version rows unread.rest
-  pub closed : ends_listing (last_of None rows) ≡ true → unread.rest ≡ []
-  pub last : unread.last ≡ last_of None rows
+  pub closed : ends_listing (last_or None rows) ≡ true → unread.rest ≡ []
+  pub last : unread.last ≡ last_or None rows
   pub count : unread.count ≡ length rows
 
 -- `holds` is true of each text, future and rows such that the rows were read from the start of the text, and `bytes`
