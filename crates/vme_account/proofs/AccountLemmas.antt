@@ -36,6 +36,7 @@ use Rattle.vme_auditor.specs.Memories.{fault_at, memories_at, memories_next}
 use Rattle.vme_auditor.specs.declared.memories.Memories.{Memories}
 use Rattle.vme_auditor.proofs.AskedParts.{KnowsStart, known-unbroken, unbroken_memories}
 use Rattle.vme_auditor.proofs.FirstBreaks.{named_break-verdict, named_break-verdict_on}
+use Rattle.vme_auditor.proofs.PartRows.{ShowsMarks}
 use Rattle.vme_auditor.proofs.ReturnedBreaks.{FindsFirst}
 use Rattle.vme_auditor.proofs.WholeRecordings.{first_determines_verdict, slice_get-breaks}
 use Rattle.vme_account.proofs.ReachedLemmas.{after_fault, unbroken_at, found_stays, reached-first, reached-marks}
@@ -145,11 +146,6 @@ module _ (t : Trace) (nothing : has_any_stretch (judged_stretches t) ≡ false) 
   marks-none o =
       ap (λ (ms : List Mark). ms ++ marks_listed o (all_marks t)) (opening_marks-none (is_idle t.opening) refl)
       ∙ marks_listed-none o
-
--- the marks that the monitors show step by step are those of the recording
-abbrev ShowsMarks : Type 0
-ShowsMarks = (t : Trace) → malformed_step t ≡ None → t.opening.slots ≤ 21
-    → joined_marks (memories_at t.opening) t.opening t.steps ≡ all_marks t
 
 module _ (finds : FindsFirst) (shows : ShowsMarks) (t : Trace) (ok : malformed_step t ≡ None)
     (few : t.opening.slots ≤ 21) where
