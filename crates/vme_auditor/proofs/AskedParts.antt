@@ -20,6 +20,7 @@ use Rattle.vme_trace.specs.declared.rule.Rule.TheVariants as rule
 use Rattle.vme_trace.specs.declared.step.Change.{Change}
 use Rattle.vme_trace.specs.declared.step.Step.{Step}
 use Rattle.vme_trace.specs.declared.verdict.Break.{Break}
+use Rattle.vme_trace.proofs.CutBlocks.{levels_at-taken}
 use Rattle.vme_monitor.specs.Along.{changes_of, memory_from}
 use Rattle.vme_monitor.specs.Ends.{end_among}
 use Rattle.vme_monitor.specs.KnownRules.{known_begin}
@@ -29,7 +30,7 @@ use Rattle.vme_monitor.specs.Run.{break_of_fault}
 use Rattle.vme_monitor.specs.declared.known.Stateless.{Stateless}
 use Rattle.vme_monitor.specs.declared.mark.Fault.{Fault}
 use Rattle.vme_monitor.specs.declared.over_stretches.StretchPhase.{StretchPhase}
-use Rattle.vme_monitor.proofs.Alongside.{slice_get-below, levels_at-step, levels_at-take, IsRunTo-take, take-next}
+use Rattle.vme_monitor.proofs.Alongside.{slice_get-below, levels_at-step, IsRunTo-take, take-next}
 use Rattle.vme_monitor.proofs.StretchLists.{judged_stretches-started, started_stretches}
 use Rattle.vme_dtb.specs.Machine.{dtb_begin}
 use Rattle.vme_dtb.specs.declared.memory.HandshakeMemory.{HandshakeMemory}
@@ -226,7 +227,7 @@ module _ (o : Levels) (x : List Step) where
         let so_far = unbroken_events-asked_to e n (omega arith) in
         let memories = unbroken_memories (memories_at o) o (take n x) in
         let before = levels_after o (take n x) in
-        let left = sym (levels_at-take t n (omega arith)) in
+        let left = sym (levels_at-taken t n) in
         let own : s.0.changes ≡ changes_of (slice_get x n) = rw s.1 refl in
         let ahead : changed (levels_at t n) (changes_of (slice_get x n)) ≡ levels_at t (suc n) =
         sym (levels_at-step t n (omega arith)) in

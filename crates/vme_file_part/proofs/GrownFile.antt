@@ -10,10 +10,10 @@ use Rattle.vme_trace.specs.Trace.{Trace, levels_after}
 use Rattle.vme_trace.specs.WellFormed.{malformed_step}
 use Rattle.vme_trace.specs.declared.block.Block.{Block}
 use Rattle.vme_trace.specs.declared.step.Step.{Step}
+use Rattle.vme_trace.proofs.CutBlocks.{levels_after-append}
 use Rattle.vme_monitor.specs.KnownRules.{stateless_place}
 use Rattle.vme_monitor.specs.Outcome.{Outcome}
 use Rattle.vme_monitor.specs.OverStretches.{phase_place}
-use Rattle.vme_monitor.specs.Runs.{levels_after-append}
 use Rattle.vme_dtb.specs.MemoryNumbers.{memory_place}
 use Rattle.vme_dtb.specs.HoldingNumbers.{holding_place}
 use Rattle.vme_chains.specs.GrantMemory.{arbitration_place}
@@ -186,7 +186,7 @@ module _ (listing : Bool) (s t r : SegmentValue) (number : ℕ) (o : Levels) (x 
 
   -- the joined segment leaves the levels that x and y leave
   left-grown : r.left ≡ levels_after o (x ++ y)
-  left-grown = e.left ∙ left-of_file listing t more_steps b ∙ sym (levels_after-append x y o)
+  left-grown = e.left ∙ left-of_file listing t more_steps b ∙ sym (levels_after-append o x y)
 
   -- the joined segment stands for the file with the steps x and y
   pub StandsForFile-grown : StandsForFile listing r (block_of number o (x ++ y))

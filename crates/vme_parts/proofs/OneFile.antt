@@ -15,7 +15,7 @@ use Rattle.vme_trace.specs.declared.step.Step.{Step}
 use Rattle.vme_trace.proofs.ListLaws.{last_or-slice_get}
 use Rattle.vme_monitor.specs.KnownRules.{stateless_place}
 use Rattle.vme_monitor.specs.OverStretches.{phase_place}
-use Rattle.vme_monitor.specs.Runs.{levels_after-append}
+use Rattle.vme_trace.proofs.CutBlocks.{levels_after-append}
 use Rattle.vme_dtb.specs.MemoryNumbers.{memory_place}
 use Rattle.vme_dtb.specs.HoldingNumbers.{holding_place}
 use Rattle.vme_chains.specs.GrantMemory.{arbitration_place}
@@ -46,7 +46,7 @@ pub levels_after-take_next : (o : Levels) (xs : List Step) (k : ℕ) (x : Step) 
     ≡ take k xs ++ x ∷ []
     → changed (levels_after o (take k xs)) x.changes ≡ levels_after o (take (k + 1) xs)
 levels_after-take_next o xs k x h e =
-    sym (ap (levels_after o) e ∙ levels_after-append (take k xs) (x ∷ []) o)
+    sym (ap (levels_after o) e ∙ levels_after-append o (take k xs) (x ∷ []))
 
 -- P holds of each element of a list of one, if it holds of the one
 pub All-one : {A : Type 0} (P : A → Type 0) (x : A) (xs : List A) → xs ≡ x ∷ [] → P x → All P xs

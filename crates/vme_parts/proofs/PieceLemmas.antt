@@ -7,8 +7,8 @@ use Rattle.vme_trace.specs.Levels.{Levels}
 use Rattle.vme_trace.specs.Trace.{levels_after}
 use Rattle.vme_trace.specs.WellFormed.{malformed_step}
 use Rattle.vme_trace.specs.declared.step.Step.{Step}
+use Rattle.vme_trace.proofs.CutBlocks.{levels_after-append}
 use Rattle.vme_monitor.specs.Outcome.{Outcome, composed_outcome, nothing_shown}
-use Rattle.vme_monitor.specs.Runs.{levels_after-append}
 use Rattle.vme_summary.proofs.Sound.{SoundParts-of_well_formed}
 use Rattle.vme_part_format.specs.Tables.{TableValue}
 use Rattle.vme_part_tables.specs.Marked.{AreNeeded, if_needed, is_needed}
@@ -26,7 +26,7 @@ take-piece xs n k m e = sym (take-add n k xs) ∙ ap (λ i. take i xs) e
 pub levels_after-piece : (o : Levels) (xs : List Step) (n k m : ℕ) → n + k ≡ m
     → levels_after (levels_after o (take n xs)) (take k (drop n xs)) ≡ levels_after o (take m xs)
 levels_after-piece o xs n k m e =
-    sym (levels_after-append (take n xs) (take k (drop n xs)) o) ∙ ap (levels_after o) (take-piece xs n k m e)
+    sym (levels_after-append o (take n xs) (take k (drop n xs))) ∙ ap (levels_after o) (take-piece xs n k m e)
 
 -- a piece of well-formed steps is well-formed from the levels after the steps before it
 pub malformed_step-piece : (o : Levels) (xs : List Step) (n k : ℕ)

@@ -10,9 +10,10 @@ use Rattle.vme_trace.specs.declared.verdict.Verdict.{Verdict}
 use Rattle.vme_trace.specs.declared.block.Block.{Block}
 use Rattle.vme_trace.specs.declared.step.Change.{Change}
 use Rattle.vme_trace.specs.declared.step.Step.{Step}
+use Rattle.vme_trace.proofs.CutBlocks.{levels_after-append}
 use Rattle.vme_monitor.specs.Outcome.{Outcome, earlier, shifted_break}
 use Rattle.vme_monitor.specs.Run.{run_of}
-use Rattle.vme_monitor.specs.Runs.{levels_after-append, run_joined}
+use Rattle.vme_monitor.specs.Runs.{run_joined}
 use Rattle.vme_monitor.specs.WithoutMarks.{FindsFor}
 use Rattle.vme_monitor.specs.declared.mark.Next.{Next}
 use Rattle.vme_summary.specs.Summaries.{SummaryStandsFor, stands_finds_all, summary_steps}
@@ -127,7 +128,7 @@ pub HasJudged-append : (j : VerdictState) (m : ChunkSummary) (n : ℕ) (f : Moni
 HasJudged-append j m n f count found o x y h made =
     let long : summary_steps m.summary ≡ length y = made.finds.known.counted in
     record {
-      left = made.left ∙ sym (levels_after-append x y o);
+      left = made.left ∙ sym (levels_after-append o x y);
       counted = count ∙ ap (λ k. k + summary_steps m.summary) h.counted ∙ ap (λ k. length x + k) long
           ∙ sym (length-append x y);
       found = found o x y h.counted h.found made.finds;

@@ -1,7 +1,7 @@
 use Rattle.std.proofs.Common.{◌≡◌, ◌<◌, ◌+◌, ◌∷◌, [], ◌++◌, ap, arith, length, sym, take, ◌∙◌}
 use Rattle.std.proofs.lemmas.List.{length-take, take_more}
 use Rattle.vme_trace.specs.Trace.{changed, levels_after}
-use Rattle.vme_monitor.specs.Runs.{levels_after-append}
+use Rattle.vme_trace.proofs.CutBlocks.{levels_after-append}
 use Rattle.vme_monitor.specs.declared.view.StepView.{StepView}
 use Rattle.vme_summary.proofs.each_monitor.summarise_monitors.Goals as goal
 

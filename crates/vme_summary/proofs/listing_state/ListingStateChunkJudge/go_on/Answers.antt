@@ -2,7 +2,7 @@
 use Rattle.std.proofs.Common.{ap, arith, subst, sym, ◌∙◌}
 use Rattle.vme_trace.specs.Levels.{Levels}
 use Rattle.vme_trace.specs.Trace.{levels_after}
-use Rattle.vme_monitor.specs.Runs.{levels_after-append}
+use Rattle.vme_trace.proofs.CutBlocks.{levels_after-append}
 use Rattle.vme_summary.specs.Summaries.{SummaryStandsFor}
 use Rattle.vme_summary.proofs.listing_state.ListingStateChunkJudge.go_on.Goals as goal
 
@@ -18,6 +18,6 @@ returns-clause-past c = λ o x h.
     c.in_ok-summary.ensures.stands in
     record {
       left = c.in_ok-summary.ensures.left ∙ ap (λ (v : Levels). levels_after v steps) h.left
-          ∙ sym (levels_after-append x steps o);
+          ∙ sym (levels_after-append o x steps);
       stands = c.in_ok-append.ensures.both o x steps h.stands here;
     }

@@ -5,7 +5,7 @@ use Rattle.std.proofs.lemmas.List.{length-take, take_all, take_more}
 use Rattle.vme_trace.specs.Levels.{Levels}
 use Rattle.vme_trace.specs.Trace.{changed, levels_after}
 use Rattle.vme_trace.specs.declared.step.Step.{Step}
-use Rattle.vme_monitor.specs.Runs.{levels_after-append}
+use Rattle.vme_trace.proofs.CutBlocks.{levels_after-append}
 use Rattle.vme_monitor.specs.declared.view.StepView.{StepView}
 use Rattle.vme_summary.specs.Progressed.{HasFound}
 use Rattle.vme_summary.proofs.monitor_states.MonitorStates.advance_along.Goals as goal
@@ -42,7 +42,7 @@ loop-step-preserved c =
           let all : (x ++ done) ++ s ∷ [] ≡ x ++ take (i + 1) steps = append_assoc x done (s ∷ [])
           ∙ ap (λ (y : List Step). x ++ y) (sym more) in
           let led : c.go_to.new.self.before ≡ levels_after o (x ++ done) = found
-          ∙ ap (λ (v : Levels). levels_after v done) here ∙ sym (levels_after-append x done o) in
+          ∙ ap (λ (v : Levels). levels_after v done) here ∙ sym (levels_after-append o x done) in
           subst (λ (y : List Step). HasFound c.advance.new.self o y) all
           (c.advance.ensures o (x ++ done)
           (record { levels_are = led; instant_is = omega (arith, length-append x done, n, count, inv.counted) })
