@@ -9,70 +9,62 @@ use Rattle.vme_trace.specs.Trace.{changed}
 use Rattle.vme_trace.specs.declared.step.Step.{Step}
 use Rattle.vme_monitor.specs.BothMonitors.{both_within, front, kind_number, merged, merged_joined}
 use Rattle.vme_monitor.specs.BothMonitors.{rest}
-use Rattle.vme_monitor.specs.Outcome.{MarksWithin, shifted_mark}
+use Rattle.vme_monitor.specs.Outcome.{shifted_mark}
 use Rattle.vme_monitor.specs.RuleMonitors.{run_within}
 use Rattle.vme_monitor.specs.Run.{kinds_of, mark_at}
 use Rattle.vme_monitor.specs.declared.mark.Mark.{Mark}
 use Rattle.vme_monitor.specs.declared.mark.MarkKind.{MarkKind}
+use Rattle.vme_monitor.proofs.JoinedMarks.{AllFrom, MarksWithin-marks_at_one, marks_at_one}
 use Rattle.vme_monitor.proofs.MergingMarks.{merged-nothing}
 use Rattle.vme_summary.specs.Runs.{grant_at, handshake_at, known_at}
 use Rattle.vme_summary.specs.Runs.{acknowledge_run, grant_run, handshake_run, known_run, stability_run}
 use Rattle.vme_auditor.specs.JoinedMarks.{joined_marks, kinds_shown}
 use Rattle.vme_auditor.specs.Memories.{memories_next}
 use Rattle.vme_auditor.specs.declared.memories.Memories.{Memories}
-use Rattle.vme_auditor.proofs.ShownKinds.{AllBelow, AllFrom, IsNothing-acknowledge, AllFrom-append, OfTenure-grant}
+use Rattle.vme_auditor.proofs.ShownKinds.{AllBelow, IsNothing-acknowledge, AllFrom-append, OfTenure-grant}
 use Rattle.vme_auditor.proofs.ShownKinds.{OfTransfer-handshake}
 use Rattle.vme_auditor.proofs.ShownKinds.{OfStretch-known, IsNothing-stability, AllBelow-stretch, AllBelow-tenure}
 use Rattle.vme_auditor.proofs.ShownKinds.{AllFrom-tenure}
 use Rattle.vme_auditor.proofs.ShownKinds.{AllFrom-transfer}
 
--- marks of these kinds at the instant 1
-abbrev pub marked : List MarkKind → List Mark
-marked ks = map (mark_at 1) ks
-
--- marks at the instant 1 are marks of the first step
-pub marked_within : (ks : List MarkKind) → MarksWithin 1 (marked ks)
-marked_within [] = tt
-marked_within (k ∷ ks) = (omega arith, omega arith, marked_within ks)
-
 -- in a merge, a mark of a kind from `n` on comes after marks of kinds below `n`
 module _ (n : ℕ) where
   -- all marks of kinds below n come before a mark of a kind from n on
   front_all : (k : MarkKind) (ls : List MarkKind) → n ≤ kind_number k → AllBelow n ls
-      → front (mark_at 1 k) (marked ls) ≡ marked ls
+      → front (mark_at 1 k) (marks_at_one ls) ≡ marks_at_one ls
   front_all k [] h b = refl
   front_all k (l ∷ ls) h b = rw (lt-ltb (kind_number l) (kind_number k) (omega (arith, b.0)))
       (ap (λ x. mark_at 1 l ∷ x) (front_all k ls h b.1))
 
   -- no mark of a kind below n comes after a mark of a kind from n on
   rest_none : (k : MarkKind) (ls : List MarkKind) → n ≤ kind_number k → AllBelow n ls
-      → rest (mark_at 1 k) (marked ls) ≡ []
+      → rest (mark_at 1 k) (marks_at_one ls) ≡ []
   rest_none k [] h b = refl
   rest_none k (l ∷ ls) h b = rw (lt-ltb (kind_number l) (kind_number k) (omega (arith, b.0))) (rest_none k ls h b.1)
 
   -- no mark of a kind from n on comes before a mark of a kind below n
   front_none : (k : MarkKind) (ls : List MarkKind) → kind_number k < n → AllFrom n ls
-      → front (mark_at 1 k) (marked ls) ≡ []
+      → front (mark_at 1 k) (marks_at_one ls) ≡ []
   front_none k [] h b = refl
   front_none k (l ∷ ls) h b = rw (le-ltb (kind_number l) (kind_number k) (omega (arith, b.0))) refl
 
   -- all marks of kinds from n on come after a mark of a kind below n
   rest_all : (k : MarkKind) (ls : List MarkKind) → kind_number k < n → AllFrom n ls
-      → rest (mark_at 1 k) (marked ls) ≡ marked ls
+      → rest (mark_at 1 k) (marks_at_one ls) ≡ marks_at_one ls
   rest_all k [] h b = refl
   rest_all k (l ∷ ls) h b = rw (le-ltb (kind_number l) (kind_number k) (omega (arith, b.0))) refl
 
   -- if the kinds of the second list are below n and those of the first aren't, the second comes first
-  merged-below_second : (ks ls : List MarkKind) → AllFrom n ks → AllBelow n ls → merged (marked ks) (marked ls)
-      ≡ marked (ls ++ ks)
-  merged-below_second [] ls f b = ap marked (sym (append-nil ls))
+  merged-below_second : (ks ls : List MarkKind) → AllFrom n ks → AllBelow n ls
+      → merged (marks_at_one ks) (marks_at_one ls) ≡ marks_at_one (ls ++ ks)
+  merged-below_second [] ls f b = ap marks_at_one (sym (append-nil ls))
   merged-below_second (k ∷ ks) ls f b =
-      rw (front_all k ls f.0 b, rest_none k ls f.0 b, merged-nothing (marked ks))
+      rw (front_all k ls f.0 b, rest_none k ls f.0 b, merged-nothing (marks_at_one ks))
       (sym (map-append (mark_at 1) ls (k ∷ ks)))
 
   -- if the kinds of the first list are below n and those of the second aren't, the first comes first
-  merged-below_first : (ks ls : List MarkKind) → AllBelow n ks → AllFrom n ls → merged (marked ks) (marked ls)
-      ≡ marked (ks ++ ls)
+  merged-below_first : (ks ls : List MarkKind) → AllBelow n ks → AllFrom n ls
+      → merged (marks_at_one ks) (marks_at_one ls) ≡ marks_at_one (ks ++ ls)
   merged-below_first [] ls b f = refl
   merged-below_first (k ∷ ks) ls b f =
       rw (front_none k ls b.0 f, rest_all k ls b.0 f) (ap (λ x. mark_at 1 k ∷ x) (merged-below_first ks ls b.1 f))
@@ -121,17 +113,18 @@ three_joined (s ∷ x) m o =
     let gd_from : AllFrom 2 (kinds_of g ++ kinds_of d) = AllFrom-append 2 (kinds_of g) (kinds_of d)
     (AllFrom-tenure g (OfTenure-grant m o after s.changes))
     (AllFrom-transfer 2 (omega arith) d (OfTransfer-handshake m o after s.changes)) in
-    ap (merged (marked (kinds_of k) ++ map (shifted_mark 1) known.marks))
-    (merged_joined 1 (length x) (marked (kinds_of d)) (marked (kinds_of g)) handshake.marks grant.marks
-    (marked_within (kinds_of d)) (marked_within (kinds_of g)) handshake_within.1 grant_within.1
+    ap (merged (marks_at_one (kinds_of k) ++ map (shifted_mark 1) known.marks))
+    (merged_joined 1 (length x) (marks_at_one (kinds_of d)) (marks_at_one (kinds_of g)) handshake.marks grant.marks
+    (MarksWithin-marks_at_one (kinds_of d)) (MarksWithin-marks_at_one (kinds_of g)) handshake_within.1 grant_within.1
     ∙ ap (λ (y : List Mark). y ++ map (shifted_mark 1) (merged handshake.marks grant.marks))
     (merged-below_second 5 (kinds_of d) (kinds_of g) d_from g_below))
-    ∙ merged_joined 1 (length x) (marked (kinds_of k)) (marked (kinds_of g ++ kinds_of d)) known.marks
-    (merged handshake.marks grant.marks) (marked_within (kinds_of k)) (marked_within (kinds_of g ++ kinds_of d))
+    ∙ merged_joined 1 (length x) (marks_at_one (kinds_of k)) (marks_at_one (kinds_of g ++ kinds_of d)) known.marks
+    (merged handshake.marks grant.marks) (MarksWithin-marks_at_one (kinds_of k))
+    (MarksWithin-marks_at_one (kinds_of g ++ kinds_of d))
     known_within.1 two_within
     ∙ ap (λ (y : List Mark). y ++ map (shifted_mark 1) (merged known.marks (merged handshake.marks grant.marks)))
     (merged-below_first 2 (kinds_of k) (kinds_of g ++ kinds_of d) k_below gd_from)
-    ∙ ap (λ (y : List Mark). marked (kinds_shown m o after s.changes) ++ map (shifted_mark 1) y)
+    ∙ ap (λ (y : List Mark). marks_at_one (kinds_shown m o after s.changes) ++ map (shifted_mark 1) y)
     (three_joined x next after)
 
 -- the merged marks of the five monitors' runs are the joined marks

@@ -14,6 +14,7 @@ use Rattle.vme_monitor.specs.Run.{answer_kind, answered_kind, cycle_kind, kinds_
 use Rattle.vme_monitor.specs.Run.{when, no_end_fault, no_start_marks}
 use Rattle.vme_monitor.specs.KnownRules.{known_begin, known_end_fault, known_next, known_start_marks, known_reset_marks}
 use Rattle.vme_monitor.specs.KnownRules.{known_observation}
+use Rattle.vme_monitor.proofs.JoinedMarks.{AllFrom}
 use Rattle.vme_monitor.specs.declared.mark.BusGrant.{BusGrant}
 use Rattle.vme_monitor.specs.declared.mark.CycleStart.{CycleStart}
 use Rattle.vme_monitor.specs.declared.mark.Fault.{Fault}
@@ -145,11 +146,6 @@ module _ (m : Memories) (v w : Levels) (cs : List Change) where
 abbrev pub AllBelow : ℕ → List MarkKind → Type 0
 AllBelow n [] = Unit {0}
 AllBelow n (k ∷ ks) = (kind_number k < n) × AllBelow n ks
-
--- all kinds have numbers from `n` on
-abbrev pub AllFrom : ℕ → List MarkKind → Type 0
-AllFrom n [] = Unit {0}
-AllFrom n (k ∷ ks) = (n ≤ kind_number k) × AllFrom n ks
 
 -- two lists of kinds with numbers from `n` on make one
 pub AllFrom-append : (n : ℕ) (ks ls : List MarkKind) → AllFrom n ks → AllFrom n ls → AllFrom n (ks ++ ls)
