@@ -9,7 +9,7 @@ use Rattle.vme_bind.specs.TextReading.{TextReading}
 use Rattle.vme_stream.specs.Outputs.{Writes}
 use Rattle.vme_stream.proofs.OutputLemmas.{Writes-append, Writes-nothing}
 use Rattle.vme_audit_command.specs.Bodies.{AuditsBody, HasGiven, TakesPiece, WritesRest}
-use Rattle.vme_audit_command.specs.Definitions.{GivenIsPrefix, unread}
+use Rattle.vme_audit_command.specs.Definitions.{unread}
 use Rattle.vme_audit_command.specs.declared.dump_input.ReadFault.{ReadFault}
 use Rattle.vme_audit_command.specs.declared.dump_input.ReadFault.TheVariants as read
 use Rattle.vme_audit_command.specs.DumpAudits.{given_recording, lines_of}
@@ -21,7 +21,7 @@ use Rattle.vme_audit_command.specs.declared.written_lines.NoOutcome.{NoOutcome}
 use Rattle.vme_audit_command.specs.declared.written_lines.NoOutcome.TheVariants.{CannotRead, NotWritten}
 use Rattle.vme_audit_command.specs.declared.written_lines.WriteFault.TheVariants.{Memory}
 use Rattle.vme_audit_command.proofs.BodyLemmas.{ReadGoesOn}
-use Rattle.vme_dump_input.proofs.ReadSteps.{StepsFollow, TimeGoesOn}
+use Rattle.vme_dump_input.proofs.ReadSteps.{GivenIsPrefix, StepsFollow, TimeGoesOn}
 use Rattle.vme_audit_command.proofs.Onward.{ExtendsTo-given}
 use Rattle.vme_audit_command.proofs.PieceLemmas.{WritesRest-after_text, WritesRest-memory}
 

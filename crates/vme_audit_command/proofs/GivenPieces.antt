@@ -10,7 +10,6 @@ use Rattle.vme_trace.specs.declared.step.Step.{Step}
 use Rattle.vme_bind.specs.TextReading.{TextReading}
 use Rattle.vme_skew.specs.Settling.{Settling}
 use Rattle.vme_audit_command.specs.Bodies.{HasGiven, TakesPiece, WritesRest}
-use Rattle.vme_audit_command.specs.Definitions.{GivenIsPrefix}
 use Rattle.vme_audit_command.specs.DumpAudits.{AuditGoesTo, given_recording, lines_of}
 use Rattle.vme_dump_input.specs.SettledReadings.{settled_by, settled_so_far}
 use Rattle.vme_dump_input.specs.SettledSteps.{ComesOut, GoOnTo}
@@ -19,7 +18,7 @@ use Rattle.vme_step_reader.specs.StepReading.{StepReading, whole_reading}
 use Rattle.vme_audit_command.specs.declared.written_lines.NoOutcome.TheVariants.{NotWritten}
 use Rattle.vme_audit_command.specs.declared.written_lines.WriteFault.{WriteFault}
 use Rattle.vme_audit_command.proofs.BodyLemmas.{ReadGoesOn}
-use Rattle.vme_dump_input.proofs.ReadSteps.{StepsFollow, StepsWithin, TimeGoesOn, settled_so_far-formed}
+use Rattle.vme_dump_input.proofs.ReadSteps.{GivenIsPrefix, StepsFollow, StepsWithin, TimeGoesOn, settled_so_far-formed}
 use Rattle.vme_audit_command.proofs.Onward.{ExtendsTo, GoOnTo-next_piece, ExtendsTo-reading}
 use Rattle.vme_audit_command.proofs.PieceLemmas.{StopIsRead, StopStays, WritesRest-cut, WritesRest-stopped}
 

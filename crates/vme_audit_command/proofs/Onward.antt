@@ -17,12 +17,12 @@ use Rattle.vme_skew.proofs.Grown.{settled-grows, settled_until-grows}
 use Rattle.vme_step_reader.specs.StepReading.{StepReading, whole_reading}
 use Rattle.vme_step_reader.specs.Stops.{StopsBehind}
 use Rattle.vme_step_reader.specs.declared.stopped_steps.StoppedSteps.{StoppedSteps}
-use Rattle.vme_dump_input.proofs.ReadSteps.{StepsFollow, StepsWithin, TimeGoesOn, settled_so_far-formed}
+use Rattle.vme_dump_input.proofs.ReadSteps.{GivenIsPrefix, StepsFollow, StepsWithin, TimeGoesOn, settled_so_far-formed}
 use Rattle.vme_dump_input.proofs.ReadSteps.{settled_so_far-opening}
 use Rattle.vme_dump_input.proofs.ReadSteps.{GoOnFrom-steps, GoOnTo-steps, StopsAs-parts, settled_whole-formed}
 use Rattle.vme_dump_input.proofs.ReadSteps.{settled_whole-opening}
 use Rattle.vme_audit_command.specs.Bodies.{HasGiven}
-use Rattle.vme_audit_command.specs.Definitions.{GivenIsPrefix, IsFormed}
+use Rattle.vme_audit_command.specs.Definitions.{IsFormed}
 use Rattle.vme_dump_input.specs.SettledReadings.{settled_before, settled_by, settled_so_far, settled_whole}
 use Rattle.vme_dump_input.specs.SettledSteps.{ComesOut, GoOnFrom, GoOnTo}
 use Rattle.vme_step_auditor.specs.ReadBy.{GivenSteps}

@@ -1,10 +1,8 @@
 -- The result of reading the definitions of a dump.
 use Rattle.std.specs.Prelude.{◌≡◌, ℕ, Bool, true, false, List, [], ◌++◌, Option, None, Some, Result, Ok, Err, IfSome}
 use Rattle.std.specs.Io.KnownBytes.{Consumes}
-use Rattle.vme_trace.specs.Followed.{with_steps}
 use Rattle.vme_trace.specs.Streams.{Reading}
 use Rattle.vme_trace.specs.WellFormed.{malformed_step}
-use Rattle.vme_trace.specs.declared.step.Step.{Step}
 use Rattle.vme_bind.specs.Binding.{BoundLines}
 use Rattle.vme_bind.specs.TextReading.{TextReading, reading_of_text}
 use Rattle.vme_bind.specs.declared.fault.CaptureFault.{CaptureFault}
@@ -16,11 +14,6 @@ use Rattle.vme_audit_command.specs.declared.dump_input.ReadFault.TheVariants as 
 use Rattle.vme_audit_command.specs.declared.written_lines.NoOutcome.{NoOutcome}
 use Rattle.vme_audit_command.specs.declared.written_lines.NoOutcome.TheVariants.{CannotRead, NotWritten, Refused}
 use Rattle.vme_audit_command.specs.declared.written_lines.WriteFault.TheVariants.{Memory, CannotWrite}
-
--- the given steps are a prefix of the recorded ones, whatever follows
-abbrev pub GivenIsPrefix : Type 0
-GivenIsPrefix = (r : StepReading) (rest : List ℕ)
-    → (more : List Step) × ((whole_reading r rest).recorded ≡ with_steps r.given more)
 
 -- whatever follows, the recording is well formed
 abbrev pub IsFormed : StepReading → Type 0
