@@ -26,7 +26,7 @@ use Rattle.vme_core.specs.Machine.{after_draw_step, after_take_step, after_look,
 use Rattle.vme_core.proofs.Sums.{update-same, update-other, each-by_cases, occurrences-cons_same}
 use Rattle.vme_core.proofs.InvariantSteps.{is_pending}
 use Rattle.vme_core.proofs.Runs.{Invariant-event}
-use Rattle.vme_board.specs.Words.{bit_of, mask_of, IsWideFor}
+use Rattle.vme_board.specs.Words.{Homes, bit_of, mask_of, IsWideFor}
 use Rattle.vme_board.specs.Postconditions.{SeatState, ClaimPost, DrawPost, FilePost, TakePost, GivePost}
 use Rattle.vme_board.specs.Postconditions.{CountPost}
 use Rattle.vme_board.proofs.Bits.{bit_of-at_most_one, marked, bit_of-marked, bit_of-other_row, bit_of-other_number}
@@ -35,10 +35,6 @@ use Rattle.vme_board_machine.specs.Steps.{BoardState, IsBoardRun, TableState, Se
 use Rattle.vme_board_machine.specs.Steps.{opened, after_claiming, after_taking, number_of, LookPost}
 use Rattle.vme_board_machine.specs.ReadsAs.{ReadsAs, IsViewAt, home_of}
 use Rattle.vme_board_machine.proofs.Acts.{get_elem-within, homes_after-left, homes_after-given, TookHome-taken}
-
--- the slots of a table, `none` where a slot is checked out
-abbrev Homes : Type 0
-Homes = List (maybe.Option (Option Block))
 
 -- setting an element to the value that it has changes nothing
 set-same_value : (l : List ℕ) (j : ℕ) → set l j (get_or l j 0) ≡ l
