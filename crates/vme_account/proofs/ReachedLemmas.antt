@@ -3,6 +3,7 @@
 use Rattle.std.proofs.Common.{◌≡◌, ◌+◌, ◌≤◌, ℕ, Bool, true, false, List, [], ◌∷◌, ◌++◌, map}
 use Rattle.std.proofs.Common.{Option, None, Some, refl, sym, ap, ◌∙◌, arith}
 use Rattle.std.specs.Prelude.{IfSome, is_some, nat_lt, option_map, if◌then◌else◌}
+use Rattle.std.specs.Option.{option_or}
 use Rattle.std.specs.List.{fold}
 use Rattle.std.proofs.lemmas.Bool.Decides.{nat_tests}
 use Rattle.std.proofs.lemmas.List.{append-nil, append_assoc, map-append}
@@ -10,7 +11,7 @@ use Rattle.vme_trace.specs.Levels.{Levels}
 use Rattle.vme_trace.specs.Trace.{changed}
 use Rattle.vme_trace.specs.declared.step.Step.{Step}
 use Rattle.vme_trace.specs.declared.verdict.Break.{Break}
-use Rattle.vme_monitor.specs.Outcome.{earlier, shifted_break, shifted_mark}
+use Rattle.vme_monitor.specs.Outcome.{shifted_break, shifted_mark}
 use Rattle.vme_monitor.specs.Run.{break_of_fault, mark_at}
 use Rattle.vme_monitor.specs.declared.mark.Fault.{Fault}
 use Rattle.vme_monitor.specs.declared.mark.Mark.{Mark}
@@ -69,7 +70,7 @@ first_is_after_opening (s ∷ x) m o =
     (first_break_from (memories_next m o (changed o s.changes) s.changes) (changed o s.changes) x)
   where
     by_fault : (f : Option Fault) (rest : Option Break)
-        → IsAfterOpening (earlier (option_map (break_of_fault 1 s.time) f) (option_map (shifted_break 1) rest))
+        → IsAfterOpening (option_or (option_map (break_of_fault 1 s.time) f) (option_map (shifted_break 1) rest))
     by_fault (Some f) rest = omega arith
     by_fault None None = tt
     by_fault None (Some b) = omega arith
@@ -196,7 +197,7 @@ module _ (s : Step) (o : Levels) (m : Memories) where
 
   -- the first break of a step and of the steps after it
   abbrev first_with : Option Fault → List Step → Option Break
-  first_with f x = earlier (option_map (break_of_fault 1 s.time) f)
+  first_with f x = option_or (option_map (break_of_fault 1 s.time) f)
       (option_map (shifted_break 1) (first_break_from new_memories new_levels x))
 
   -- if the break that is found in the steps x after this one is their first, n + 1 later, then the break found in this

@@ -6,7 +6,7 @@ use Rattle.std.proofs.Common.{take, drop, refl, sym, ◌∙◌, ap, subst, arith
 use Rattle.std.proofs.lemmas.List.{length-drop, take-append-drop, take_all}
 use Rattle.std.specs.Prelude.{min, slice_get}
 use Rattle.std.specs.List.{fold, list_any}
-use Rattle.std.specs.Option.{option_map, option_map_or}
+use Rattle.std.specs.Option.{option_map, option_map_or, option_or}
 use Rattle.std.proofs.Math.Bool.{or-false, or_assoc}
 use Rattle.vme_trace.specs.Instants.{any}
 use Rattle.vme_trace.specs.Judged.{Stretch, has_any_stretch, judged_stretches}
@@ -24,7 +24,7 @@ use Rattle.vme_trace.proofs.CutBlocks.{levels_at-taken}
 use Rattle.vme_monitor.specs.Along.{changes_of, memory_from}
 use Rattle.vme_monitor.specs.Ends.{end_among}
 use Rattle.vme_monitor.specs.KnownRules.{known_begin}
-use Rattle.vme_monitor.specs.Outcome.{BreakWithin, earlier, shifted_break}
+use Rattle.vme_monitor.specs.Outcome.{BreakWithin, shifted_break}
 use Rattle.vme_monitor.specs.OverStretches.{has_started, opening_phase}
 use Rattle.vme_monitor.specs.Run.{break_of_fault}
 use Rattle.vme_monitor.specs.declared.known.Stateless.{Stateless}
@@ -148,7 +148,7 @@ module _ (m : Memories) (o : Levels) (s : Step) (x : List Step) (e : AskedEvents
       ≡ events_around_break next after noted x (first_break_from next after x)
       → events_from (memories_after f after next) after (events_unless_break f after noted) x
       ≡ events_around_break m o e (s ∷ x)
-      (earlier (option_map (break_of_fault 1 time) f) (option_map (shifted_break 1) (first_break_from next after x)))
+      (option_or (option_map (break_of_fault 1 time) f) (option_map (shifted_break 1) (first_break_from next after x)))
   unfolding levels_at unbroken_events
   events_around_break-step None time so_far = so_far ∙ events_around_break-shifted (first_break_from next after x)
   events_around_break-step (Some f) time so_far = refl
@@ -345,10 +345,10 @@ has_any_stretch-broken t b e = has_any_stretch-named t (judged_stretches t) b e
 module _ (s : Step) (x : List Step) (m next : Memories) (o after : Levels) (b : Break) where
   -- if the first break of `x` is the first one of the steps of `x` up to it, the same is so of the steps `s` and `x`
   first_break_from-cut_step : (f : Option Fault) (found : Option Break)
-      → earlier (option_map (break_of_fault 1 s.time) f) (option_map (shifted_break 1) found) ≡ Some b
+      → option_or (option_map (break_of_fault 1 s.time) f) (option_map (shifted_break 1) found) ≡ Some b
       → ((c : Break) → found ≡ Some c → first_break_from next after (take c.instant x) ≡ Some c)
       → ((k : ℕ) → first_break_from m o (s ∷ take k x)
-      ≡ earlier (option_map (break_of_fault 1 s.time) f)
+      ≡ option_or (option_map (break_of_fault 1 s.time) f)
       (option_map (shifted_break 1) (first_break_from next after (take k x))))
       → first_break_from m o (take b.instant (s ∷ x)) ≡ Some b
   first_break_from-cut_step (Some f) found h so_far step =

@@ -1,7 +1,7 @@
 -- The least of the breaks of all monitors' runs is the first one that the monitors find step by step.
 use Rattle.std.proofs.Common.{◌≡◌, ℕ, suc, Bool, true, false, List, [], ◌∷◌, length, refl, ◌∙◌, ap}
 use Rattle.std.proofs.Common.{cond, Option, None, Some}
-use Rattle.std.specs.Option.{option_map}
+use Rattle.std.specs.Option.{option_map, option_or}
 use Rattle.vme_trace.specs.Levels.{Levels}
 use Rattle.vme_trace.specs.Judged.{Stretch, judged_stretches}
 use Rattle.vme_trace.specs.Rules.{all_rules, is_unreadable}
@@ -11,7 +11,7 @@ use Rattle.vme_trace.specs.declared.step.Step.{Step}
 use Rattle.vme_trace.specs.declared.verdict.Break.{Break}
 use Rattle.vme_trace.specs.declared.verdict.Verdict.TheVariants.{Broken, Unreadable}
 use Rattle.vme_monitor.specs.BothMonitors.{least, least_joined, break_least}
-use Rattle.vme_monitor.specs.Outcome.{BreakWithin, earlier, shifted_break}
+use Rattle.vme_monitor.specs.Outcome.{BreakWithin, shifted_break}
 use Rattle.vme_monitor.specs.RuleMonitors.{run_within, break_earlier, break_there, break_shifted}
 use Rattle.vme_monitor.specs.Run.{break_of_fault}
 use Rattle.vme_monitor.specs.declared.mark.Fault.{Fault}
@@ -45,12 +45,12 @@ least-faults time (Some f) (Some g) = chosen (comes_before g f)
 -- the least of what two monitors find at a step and after it is what they find at the step, or else the least of what
 -- they find after it
 least-step : (k time : ℕ) (f g : Option Fault) (c d : Option Break) → BreakWithin k c → BreakWithin k d
-    → least (earlier (break_at_first time f) (one_later c)) (earlier (break_at_first time g) (one_later d))
-    ≡ earlier (break_at_first time (first_fault f g)) (one_later (least c d))
+    → least (option_or (break_at_first time f) (one_later c)) (option_or (break_at_first time g) (one_later d))
+    ≡ option_or (break_at_first time (first_fault f g)) (one_later (least c d))
 least-step k time f g c d p q =
     least_joined 1 k (break_at_first time f) (break_at_first time g) c d (break_there 0 time f)
     (break_there 0 time g) p q
-    ∙ ap (λ e. earlier e (one_later (least c d))) (least-faults time f g)
+    ∙ ap (λ e. option_or e (one_later (least c d))) (least-faults time f g)
 
 -- the least of what all five monitors find in steps `x`
 abbrev pub least_event : Memories → Levels → List Step → Option Break
@@ -65,11 +65,11 @@ module _ (k time : ℕ) where
   -- what they find after it
   least-step_of_five : (f g h i j : Option Fault) (a b c d e : Option Break) → BreakWithin k a → BreakWithin k b
       → BreakWithin k c → BreakWithin k d → BreakWithin k e
-      → least (earlier (break_at_first time f) (one_later a))
-      (least (earlier (break_at_first time g) (one_later b))
-      (least (earlier (break_at_first time h) (one_later c))
-      (least (earlier (break_at_first time i) (one_later d)) (earlier (break_at_first time j) (one_later e)))))
-      ≡ earlier (break_at_first time (first_fault f (first_fault g (first_fault h (first_fault i j)))))
+      → least (option_or (break_at_first time f) (one_later a))
+      (least (option_or (break_at_first time g) (one_later b))
+      (least (option_or (break_at_first time h) (one_later c))
+      (least (option_or (break_at_first time i) (one_later d)) (option_or (break_at_first time j) (one_later e)))))
+      ≡ option_or (break_at_first time (first_fault f (first_fault g (first_fault h (first_fault i j)))))
       (one_later (least a (least b (least c (least d e)))))
   least-step_of_five f g h i j a b c d e p q r s t =
       let last = least-step k time i j d e s t in
@@ -97,7 +97,7 @@ least_event-first_break (s ∷ x) m o =
     (acknowledge_run next.acknowledge after x).first_break (run_within known_at x next.known after).0
     (run_within handshake_at x next.handshake after).0 (run_within stability_at x next.stability after).0
     (run_within grant_at x next.grant after).0 (run_within acknowledge_at x next.acknowledge after).0
-    ∙ ap (λ e. earlier (fault_at m o after s.changes 1 s.time) (one_later e)) (least_event-first_break x next after)
+    ∙ ap (λ e. option_or (fault_at m o after s.changes 1 s.time) (one_later e)) (least_event-first_break x next after)
 
 -- the first break is at an instant of `x`, if there is one
 pub BreakWithin-first_break : (x : List Step) (m : Memories) (o : Levels)

@@ -4,13 +4,13 @@ use Rattle.std.proofs.Common.{refl}
 use Rattle.std.proofs.Common.{sym, ◌∙◌, ap, subst, arith, add-one, append-nil, Option, None, Some}
 use Rattle.std.proofs.lemmas.List.{length-drop}
 use Rattle.std.specs.List.{fold}
-use Rattle.std.specs.Option.{option_map, option_map_or}
+use Rattle.std.specs.Option.{option_map, option_map_or, option_or}
 use Rattle.vme_trace.specs.Levels.{Levels}
 use Rattle.vme_trace.specs.Trace.{changed, levels_at, recorded}
 use Rattle.vme_trace.specs.WellFormed.{malformed_step}
 use Rattle.vme_trace.specs.declared.step.Step.{Step}
 use Rattle.vme_trace.specs.declared.verdict.Break.{Break}
-use Rattle.vme_monitor.specs.Outcome.{BreakWithin, earlier, shifted_break}
+use Rattle.vme_monitor.specs.Outcome.{BreakWithin, shifted_break}
 use Rattle.vme_monitor.specs.OverStretches.{has_started}
 use Rattle.vme_monitor.specs.Run.{break_of_fault}
 use Rattle.vme_monitor.specs.declared.mark.Fault.{Fault}
@@ -72,7 +72,7 @@ module _ (m : Memories) (o : Levels) (s : Step) (x : List Step) where
       ≡ memories_around_break next after x (first_break_from next after x)
       → memories_from (memories_after f after next) after x
       ≡ memories_around_break m o (s ∷ x)
-      (earlier (option_map (break_of_fault 1 time) f) (option_map (shifted_break 1) (first_break_from next after x)))
+      (option_or (option_map (break_of_fault 1 time) f) (option_map (shifted_break 1) (first_break_from next after x)))
   unfolding levels_at unbroken_memories
   memories_around_break-step None time so_far = so_far ∙ memories_around_break-shifted (first_break_from next after x)
   memories_around_break-step (Some f) time so_far = refl

@@ -3,7 +3,7 @@ use Rattle.std.proofs.Common.{◌≡◌, ℕ, zero, suc, ◌+◌, ◌≤◌, Lis
 use Rattle.std.proofs.Common.{ap, subst, arith, append_assoc, append-nil, add-one, Option, None, Some}
 use Rattle.std.proofs.lemmas.List.{length-drop, take-append-drop}
 use Rattle.std.specs.List.{fold}
-use Rattle.std.specs.Option.{option_map, option_map_or, option_to_list}
+use Rattle.std.specs.Option.{option_map, option_map_or, option_or, option_to_list}
 use Rattle.vme_trace.specs.Levels.{Levels}
 use Rattle.vme_trace.specs.Trace.{Trace, changed, levels_after, levels_at, recorded}
 use Rattle.vme_trace.specs.Verdict.{verdict}
@@ -12,7 +12,7 @@ use Rattle.vme_trace.specs.declared.step.Step.{Step}
 use Rattle.vme_trace.specs.declared.verdict.Break.{Break}
 use Rattle.vme_trace.proofs.Changing.{slots-kept}
 use Rattle.vme_trace.proofs.CutBlocks.{levels_at-taken}
-use Rattle.vme_monitor.specs.Outcome.{BreakWithin, earlier, shifted_break}
+use Rattle.vme_monitor.specs.Outcome.{BreakWithin, shifted_break}
 use Rattle.vme_monitor.specs.Run.{break_of_fault}
 use Rattle.vme_monitor.specs.declared.mark.Fault.{Fault}
 use Rattle.vme_audit.specs.Parts.{breaks, breaks_of, moved_by, named_break, own_break, part_after, parts}
@@ -100,7 +100,7 @@ module _ (o : Levels) (s : Step) (x : List Step) (n : ℕ) where
       ≡ returned_after after (n + 1) x (first_break_from m after x)
       → option_to_list (option_map (break_of_fault (n + 1) s.time) f)
       ++ returned_by (memories_after f after m) after (n + 1) x ≡ returned_after o n (s ∷ x)
-      (earlier (option_map (break_of_fault 1 s.time) f) (option_map (shifted_break 1) (first_break_from m after x)))
+      (option_or (option_map (break_of_fault 1 s.time) f) (option_map (shifted_break 1) (first_break_from m after x)))
   unfolding levels_at
   returned_by-step None m so_far = so_far ∙ returned_after-shifted o n s x (first_break_from m after x)
   returned_by-step (Some f) m so_far = refl

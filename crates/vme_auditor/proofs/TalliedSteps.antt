@@ -5,13 +5,13 @@ use Rattle.std.proofs.Common.{take, drop, refl, sym, ◌∙◌, ap, arith, add-o
 use Rattle.std.specs.Prelude.{slice_get}
 use Rattle.std.specs.List.{fold}
 use Rattle.std.proofs.lemmas.List.Sums.{fold-append}
-use Rattle.std.specs.Option.{option_map, option_map_or, option_to_list}
+use Rattle.std.specs.Option.{option_map, option_map_or, option_or, option_to_list}
 use Rattle.vme_trace.specs.Levels.{Levels}
 use Rattle.vme_trace.specs.Trace.{changed, levels_at, recorded, time_of}
 use Rattle.vme_trace.specs.declared.data.Lanes.{Lanes}
 use Rattle.vme_trace.specs.declared.step.Step.{Step}
 use Rattle.vme_trace.specs.declared.verdict.Break.{Break}
-use Rattle.vme_monitor.specs.Outcome.{BreakWithin, earlier, shifted_break, shifted_mark}
+use Rattle.vme_monitor.specs.Outcome.{BreakWithin, shifted_break, shifted_mark}
 use Rattle.vme_monitor.specs.Run.{answer_kind, answered_kind, break_of_fault, cycle_kind, kinds_of, mark_at}
 use Rattle.vme_monitor.specs.Run.{tenure_kind}
 use Rattle.vme_monitor.specs.Run.{when}
@@ -291,7 +291,8 @@ module _ (m : Memories) (o : Levels) (s : Step) (x : List Step) (n : ℕ) (a : T
       (tally_after suc f a (n + 1) s.time (known_at m.known o after s.changes).shown
       (grant_at m.grant o after s.changes).shown (handshake_at m.handshake o after s.changes).shown) x
       ≡ tally_around_break m o n a (s ∷ x)
-      (earlier (option_map (break_of_fault 1 s.time) f) (option_map (shifted_break 1) (first_break_from next after x)))
+      (option_or (option_map (break_of_fault 1 s.time) f)
+      (option_map (shifted_break 1) (first_break_from next after x)))
   unfolding levels_at unbroken_tally
   tally_around_break-step None so_far =
       so_far ∙ tally_around_break-shifted (first_break_from next after x) (BreakWithin-first_break x next after)

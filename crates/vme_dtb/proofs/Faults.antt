@@ -6,8 +6,8 @@ use Rattle.std.specs.Option.{option_or}
 use Rattle.vme_trace.specs.declared.rule.Rule.{Rule}
 use Rattle.vme_trace.specs.declared.rule.Rule.TheVariants.{C1, C2, I4, I5}
 use Rattle.vme_trace.specs.declared.verdict.Break.{Break}
+use Rattle.vme_trace.proofs.ListLaws.{option_map-option_or, option_or-assoc}
 use Rattle.vme_monitor.specs.declared.mark.Fault.{Fault}
-use Rattle.vme_monitor.proofs.StretchLists.{option_or-assoc}
 use Rattle.vme_dtb.specs.CycleState.{is_interrupt_acknowledge, is_answered_interrupt_acknowledge}
 use Rattle.vme_dtb.specs.CycleState.{is_read_modify_write_broken, is_direction_changed}
 use Rattle.vme_dtb.specs.Machine.{fault_if, cycle_fault, cycle_faults, first_of_faults, or_first}
@@ -45,13 +45,6 @@ cycle_fault-no_answer c w =
         ),
       ),
     ))
-
--- the break of the first of two faults is the first of their breaks
-option_map-option_or : (at : Fault → Break) (a b : Option Fault) → option_map at (option_or a b)
-    ≡ option_or (option_map at a)
-    (option_map at b)
-option_map-option_or at None b = refl
-option_map-option_or at (Some x) b = refl
 
 module _ (at : Fault → Break) (of : Rule → Option Break) where
   -- the first break of some rules, or else `later`

@@ -7,12 +7,12 @@ use Rattle.std.proofs.lemmas.List.Elements.{All-tail}
 use Rattle.std.specs.Prelude.{All, get_or}
 use Rattle.vme_trace.specs.Levels.{Levels}
 use Rattle.vme_trace.specs.declared.step.Change.{Change}
+use Rattle.vme_trace.proofs.ListLaws.{option_or-none}
 use Rattle.vme_monitor.specs.Outcome.{Outcome}
 use Rattle.vme_monitor.specs.Run.{advanced, extended, machine_step, outcome_at, quiet}
 use Rattle.vme_monitor.specs.Walk.{outcome_of}
 use Rattle.vme_monitor.specs.declared.link.TableRow.{TableRow}
 use Rattle.vme_monitor.specs.declared.mark.Next.{Next}
-use Rattle.vme_monitor.specs.Runs.{earlier-none}
 
 -- a bound m on the sizes gives each greater bound n
 pub All-greater_bound : {A : Type 0} (size : A → ℕ) (m n : ℕ) (xs : List A) → m ≤ n → All (λ x. size x ≤ m) xs
@@ -22,7 +22,7 @@ All-greater_bound size m n xs h a k d b = let small : size (get_or xs k d) ≤ m
 -- a step that leaves the memory as it is, breaks nothing and shows nothing, leaves the outcome as it is
 pub extended-quiet : {P : Type 0} (n time : ℕ) (a : Outcome P) (next : Next P) → next ≡ quiet a.leaving
     → extended a (outcome_at n time next) ≡ a
-extended-quiet n time a next e = rw (e, earlier-none a.first_break, append-nil a.marks) refl
+extended-quiet n time a next e = rw (e, option_or-none a.first_break, append-nil a.marks) refl
 
 module _ {P S : Type 0} (observation : Levels → Levels → List Change → Option S) (next : P → Levels → Levels → S
     → Next P) (sensitivity : P → ℕ) (threshold : S → ℕ)

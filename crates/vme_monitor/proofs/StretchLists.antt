@@ -13,8 +13,7 @@ use Rattle.vme_trace.specs.declared.rule.Rule.{Rule}
 use Rattle.vme_trace.specs.declared.verdict.Break.{Break}
 use Rattle.vme_trace.proofs.JudgedStretches.{end-after, judged_stretches-before, stretches_before}
 use Rattle.vme_trace.proofs.JudgedStretches.{stretches_before-no_start, stretches_before-starts}
-use Rattle.vme_trace.proofs.ListLaws.{option_or-none}
-use Rattle.vme_monitor.specs.Outcome.{earlier}
+use Rattle.vme_trace.proofs.ListLaws.{option_or-assoc, option_or-none}
 use Rattle.vme_monitor.specs.Run.{mark_at, kinds_of}
 use Rattle.vme_monitor.specs.Shows.{marks_on, marks_until, marks_within, marks_over}
 use Rattle.vme_monitor.specs.declared.mark.StepMarks.{StepMarks}
@@ -65,17 +64,12 @@ abbrev pub marks_to : (Stretch → ℕ → StepMarks) → ℕ → List Stretch �
 marks_to shown n [] = []
 marks_to shown n (stretch ∷ stretches) = marks_until stretch (shown stretch) n ++ marks_to shown n stretches
 
--- the first of three optional breaks, however they are grouped
-pub option_or-assoc : (a b c : Option Break) → option_or (option_or a b) c ≡ option_or a (option_or b c)
-option_or-assoc None b c = refl
-option_or-assoc (Some x) b c = refl
-
 -- the first of a, b and c is the first of a, b and d, if c and d are equal where there is no b
-pub earlier-option_or : (a b c d : Option Break) → (b ≡ None → c ≡ d) → earlier (option_or a b) c
+pub option_or-assoc_where_none : (a b c d : Option Break) → (b ≡ None → c ≡ d) → option_or (option_or a b) c
     ≡ option_or a (option_or b d)
-earlier-option_or None None c d h = h refl
-earlier-option_or None (Some b) c d h = refl
-earlier-option_or (Some a) b c d h = refl
+option_or-assoc_where_none None None c d h = h refl
+option_or-assoc_where_none None (Some b) c d h = refl
+option_or-assoc_where_none (Some a) b c d h = refl
 
 -- a list with a stretch at its end has a stretch
 pub has_any_stretch-append : (stretches : List Stretch) (stretch : Stretch)

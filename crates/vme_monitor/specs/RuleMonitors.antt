@@ -1,14 +1,14 @@
 -- The breaks and the marks of a run are at the instants of its steps.
 use Rattle.std.proofs.Common.{◌≡◌, ℕ, suc, ◌+◌, ◌^◌, ◌<◌, ◌≤◌, List, [], ◌∷◌, ◌++◌, length, map, refl, sym, ◌∙◌, arith}
 use Rattle.std.proofs.Common.{length-append, Option, Some, None}
-use Rattle.std.specs.Option.{option_map}
+use Rattle.std.specs.Option.{option_map, option_or}
 use Rattle.vme_trace.specs.Trace.{levels_after, changed}
 use Rattle.vme_trace.specs.Levels.{Levels}
 use Rattle.vme_trace.specs.declared.step.Change.{Change}
 use Rattle.vme_trace.specs.declared.step.Step.{Step}
 use Rattle.vme_trace.specs.declared.verdict.Break.{Break}
 use Rattle.vme_monitor.specs.declared.mark.Fault.{Fault}
-use Rattle.vme_monitor.specs.Outcome.{Outcome, StandsFor, BreakWithin, MarksWithin, IsWithin, composed_outcome, earlier}
+use Rattle.vme_monitor.specs.Outcome.{Outcome, StandsFor, BreakWithin, MarksWithin, IsWithin, composed_outcome}
 use Rattle.vme_monitor.specs.Outcome.{shifted_break, shifted_mark}
 use Rattle.vme_monitor.specs.Run.{run_of, extended, break_of_fault, mark_at, kinds_of}
 use Rattle.vme_monitor.specs.Walk.{later, later_break, later_mark, later_outcome}
@@ -18,7 +18,7 @@ use Rattle.vme_monitor.specs.declared.mark.Next.{Next}
 use Rattle.vme_monitor.specs.Runs.{break_here, marks_here}
 
 -- the earlier of two breaks within n steps is within n
-pub break_earlier : (n : ℕ) (a b : Option Break) → BreakWithin n a → BreakWithin n b → BreakWithin n (earlier a b)
+pub break_earlier : (n : ℕ) (a b : Option Break) → BreakWithin n a → BreakWithin n b → BreakWithin n (option_or a b)
 break_earlier n None b p q = q
 break_earlier n (Some x) b p q = p
 

@@ -6,7 +6,7 @@ use Rattle.std.proofs.Common.{refl, ap, ◌∙◌, arith}
 use Rattle.std.specs.Option.{option_map, option_or}
 use Rattle.std.proofs.lemmas.List.{map-append}
 use Rattle.vme_trace.specs.declared.verdict.Break.{Break}
-use Rattle.vme_monitor.specs.Outcome.{BreakWithin, IsWithin, MarksWithin, Outcome, composed_outcome, earlier}
+use Rattle.vme_monitor.specs.Outcome.{BreakWithin, IsWithin, MarksWithin, Outcome, composed_outcome}
 use Rattle.vme_monitor.specs.Outcome.{shifted_break, shifted_mark}
 use Rattle.vme_monitor.specs.declared.mark.Mark.{Mark}
 use Rattle.vme_part_format.specs.Tables.{TableValue}
@@ -53,7 +53,7 @@ module _ (m n : ℕ) (fits : m + n < 2 ^ 64) where
   -- the break of the first table, or else that of the second, is the earlier one
   break_of-option_or : (a b : Option WideBreak) (e f : Option Break) → option_map break_of a ≡ e → option_map break_of b
       ≡ f
-      → option_map break_of (option_or a b) ≡ earlier e f
+      → option_map break_of (option_or a b) ≡ option_or e f
   break_of-option_or None b None f p q = q
   break_of-option_or None b (Some e) f p q = absurd (cc)
   break_of-option_or (Some a) b None f p q = absurd (cc)

@@ -10,9 +10,9 @@ use Rattle.std.proofs.lemmas.List.Elements.{All-append}
 use Rattle.std.proofs.lemmas.List.{length-map, length-reverse, map-append, reverse-append}
 use Rattle.std.proofs.lemmas.Option.{get_or_from_slice_get, slice_get_cases}
 use Rattle.vme_trace.specs.declared.verdict.Break.{Break}
-use Rattle.vme_monitor.specs.Outcome.{Outcome, earlier}
+use Rattle.vme_trace.proofs.ListLaws.{option_map-option_or, option_or-none}
+use Rattle.vme_monitor.specs.Outcome.{Outcome}
 use Rattle.vme_monitor.specs.declared.mark.Mark.{Mark}
-use Rattle.vme_monitor.specs.Runs.{earlier-none}
 use Rattle.vme_part_format.specs.Tables.{NodeValue, TableValue, node_value}
 use Rattle.vme_part_format.specs.declared.table.TableEntry.{TableEntry}
 use Rattle.vme_part_format.specs.declared.table.TableNode.{TableNode}
@@ -90,16 +90,11 @@ module _ (m : ℕ) where
       → MadeGoOn m (made ++ n ∷ [])
   MadeGoOn-push made n g h = rw (reverse-push made n) (rw (length-reverse made) h, g)
 
--- the first of two breaks that is there is the earlier one
-break_of-option_or : (a b : Option WideBreak) → option_map break_of (option_or a b)
-    ≡ earlier (option_map break_of a) (option_map break_of b)
-break_of-option_or None b = refl
-break_of-option_or (Some a) b = refl
-
 -- `with_break_before` adds a break before the outcome w
 pub AddsBefore-break : (ev : Option WideBreak) (w : WideOutcome) → AddsBefore (option_map break_of ev) [] w
     (with_break_before ev w)
-AddsBefore-break ev w = record { leaving = refl; first_break = break_of-option_or ev w.first_break; marks = refl }
+AddsBefore-break ev w =
+    record { leaving = refl; first_break = option_map-option_or break_of ev w.first_break; marks = refl }
 
 -- marks, and before them a break, are added before the outcome w
 pub AddsBefore-marks : (ev : Option WideBreak) (ws : List WideMark) (ms : List Mark) (w : WideOutcome) → map mark_of ws
@@ -108,7 +103,7 @@ pub AddsBefore-marks : (ev : Option WideBreak) (ws : List WideMark) (ms : List M
 AddsBefore-marks ev ws ms w e =
     record {
       leaving = refl;
-      first_break = break_of-option_or ev w.first_break;
+      first_break = option_map-option_or break_of ev w.first_break;
       marks = map-append mark_of ws w.marks ∙ ap (λ k. k ++ map mark_of w.marks) e;
     }
 
@@ -147,7 +142,7 @@ AgreesWithRun-of_outcome place m made p ev ms r h s =
     ap (λ k. with_break_before None (run_from m (reverse made) k)) (reversed_way-memory m (length made) (place p) h)
     ∙ ap (with_break_before None) (run_from_memory m (reverse made) (place p) h) in
     let s = subst (λ w. AddsBefore ev ms w r) ends s in
-    record { leaving = s.leaving; first_break = s.first_break ∙ earlier-none ev; marks = s.marks ∙ append-nil ms }
+    record { leaving = s.leaving; first_break = s.first_break ∙ option_or-none ev; marks = s.marks ∙ append-nil ms }
 
 -- one more item doesn't change the items before it
 pub onward_at-before_new : (os : List Onward) (o : Onward) (k : ℕ) → k < length os

@@ -2,9 +2,9 @@
 use Rattle.std.specs.Prelude.{◌≡◌, ℕ, ◌+◌, ◌-◌, ◌<◌, Bool, true, false, List, [], ◌++◌, All, Option, None, length}
 use Rattle.std.specs.Prelude.{map, reverse}
 use Rattle.std.specs.Prelude.{slice_get, nat_lt, if◌then◌else◌}
-use Rattle.std.specs.Option.{option_map, option_map_or}
+use Rattle.std.specs.Option.{option_map, option_map_or, option_or}
 use Rattle.vme_trace.specs.declared.verdict.Break.{Break}
-use Rattle.vme_monitor.specs.Outcome.{Outcome, earlier}
+use Rattle.vme_monitor.specs.Outcome.{Outcome}
 use Rattle.vme_monitor.specs.declared.mark.Mark.{Mark}
 use Rattle.vme_part_format.specs.Tables.{NodeValue, TableValue}
 use Rattle.vme_part_format.specs.declared.table.TableEntry.{TableEntry}
@@ -16,7 +16,7 @@ use Rattle.vme_part_tables.specs.declared.marked.Onward.{Onward}
 -- the outcome r is the break `found`, the marks `shown`, and then the outcome w
 pub record AddsBefore (found : Option Break) (shown : List Mark) (w r : WideOutcome) : Type 0 where
   pub leaving : r.leaving ≡ w.leaving
-  pub first_break : option_map break_of r.first_break ≡ earlier found (option_map break_of w.first_break)
+  pub first_break : option_map break_of r.first_break ≡ option_or found (option_map break_of w.first_break)
   pub marks : map mark_of r.marks ≡ shown ++ map mark_of w.marks
 
 -- translates `way`, which counts `made` nodes in the order in which they were made, to a way of the reverse order

@@ -2,13 +2,13 @@
 use Rattle.std.proofs.Common.{◌≡◌, ℕ, ◌+◌, List, [], ◌∷◌, ◌++◌, length, sym}
 use Rattle.std.proofs.Common.{ap, ◌∙◌}
 use Rattle.std.proofs.Common.{Option}
-use Rattle.std.specs.Option.{option_map}
+use Rattle.std.specs.Option.{option_map, option_or}
 use Rattle.vme_trace.specs.Levels.{Levels}
 use Rattle.vme_trace.specs.Trace.{changed, levels_after}
 use Rattle.vme_trace.specs.declared.step.Change.{Change}
 use Rattle.vme_trace.specs.declared.step.Step.{Step}
 use Rattle.vme_trace.specs.declared.verdict.Break.{Break}
-use Rattle.vme_monitor.specs.Outcome.{Outcome, earlier}
+use Rattle.vme_monitor.specs.Outcome.{Outcome}
 use Rattle.vme_monitor.specs.Run.{break_of_fault, run_of}
 use Rattle.vme_monitor.specs.Runs.{run_more}
 use Rattle.vme_monitor.specs.StepRuns.{seen_in}
@@ -25,7 +25,7 @@ pub HasMonitorState-one_step : {P : Type 0} (next : P → Levels → Levels → 
     (o : Levels) (x : List Step) (s : Step) (before after : Levels) (n : ℕ) → before ≡ levels_after o x
     → after ≡ changed before s.changes → n ≡ length x + 1
     → b.memory ≡ (next a.memory before after s.changes).memory
-    → b.first_break ≡ earlier a.first_break
+    → b.first_break ≡ option_or a.first_break
     (option_map (break_of_fault n s.time) (next a.memory before after s.changes).fault)
     → HasMonitorState (run_of next) begin a o x → HasMonitorState (run_of next) begin b o (x ++ s ∷ [])
 HasMonitorState-one_step {P} next begin a b o x s before after n here there count m e seen =
@@ -36,10 +36,10 @@ HasMonitorState-one_step {P} next begin a b o x s before after n here there coun
       memory = m ∙ ap (λ (p : P). (next p before after s.changes).memory) seen.memory
           ∙ sym (ap (λ (r : Outcome P). r.leaving) whole);
       first_break = e
-          ∙ ap (λ (k : ℕ). earlier a.first_break (later k (next a.memory before after s.changes).fault)) count
-          ∙ ap (λ (p : P). earlier a.first_break (later (length x + 1) (next p before after s.changes).fault))
+          ∙ ap (λ (k : ℕ). option_or a.first_break (later k (next a.memory before after s.changes).fault)) count
+          ∙ ap (λ (p : P). option_or a.first_break (later (length x + 1) (next p before after s.changes).fault))
           seen.memory
-          ∙ ap (λ (v : Option Break). earlier v (later (length x + 1)
+          ∙ ap (λ (v : Option Break). option_or v (later (length x + 1)
           (next so_far.leaving before after s.changes).fault)) seen.first_break
           ∙ sym (ap (λ (r : Outcome P). r.first_break) whole);
     }

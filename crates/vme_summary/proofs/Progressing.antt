@@ -1,7 +1,7 @@
 -- Judging continues with further blocks, and with further steps.
 use Rattle.std.proofs.Common.{◌≡◌, ℕ, ◌+◌, ◌≤◌, List, [], ◌∷◌, ◌++◌, length, length-append, sym, ◌∙◌, ap, subst, refl}
 use Rattle.std.proofs.Common.{Some, None}
-use Rattle.std.specs.Option.{option_map}
+use Rattle.std.specs.Option.{option_map, option_or}
 use Rattle.vme_trace.specs.Levels.{Levels}
 use Rattle.vme_trace.specs.Trace.{Trace, levels_after}
 use Rattle.vme_trace.specs.Blocks.{joined_steps}
@@ -11,7 +11,7 @@ use Rattle.vme_trace.specs.declared.block.Block.{Block}
 use Rattle.vme_trace.specs.declared.step.Change.{Change}
 use Rattle.vme_trace.specs.declared.step.Step.{Step}
 use Rattle.vme_trace.proofs.CutBlocks.{levels_after-append}
-use Rattle.vme_monitor.specs.Outcome.{Outcome, earlier, shifted_break}
+use Rattle.vme_monitor.specs.Outcome.{Outcome, shifted_break}
 use Rattle.vme_monitor.specs.Run.{run_of}
 use Rattle.vme_monitor.specs.Runs.{run_joined}
 use Rattle.vme_monitor.specs.WithoutMarks.{FindsFor}
@@ -37,7 +37,7 @@ use Rattle.vme_summary.proofs.Whole.{joined_trace-well_formed}
 -- state after x and y
 pub HasMonitorState-append : {P : Type 0} (next : P → Levels → Levels → List Change → Next P) (begin : Levels → P)
     (says : P → Outcome P) (count n : ℕ) (a b : MonitorState P) (o : Levels) (x y : List Step)
-    → b.memory ≡ (says a.memory).leaving → b.first_break ≡ earlier a.first_break
+    → b.memory ≡ (says a.memory).leaving → b.first_break ≡ option_or a.first_break
     (option_map (shifted_break n) (says a.memory).first_break) → n ≡ length x
     → HasMonitorState (run_of next) begin a o x → FindsFor (run_of next) says count (levels_after o x) y
     → HasMonitorState (run_of next) begin b o (x ++ y)
@@ -52,10 +52,10 @@ HasMonitorState-append {P} next begin says count n a b o x y m e long seen finds
     ∙ ap (λ (p : P). (run_of next p after y).first_break) seen.memory in
     record {
       memory = m ∙ left ∙ sym (ap (λ (r : Outcome P). r.leaving) whole);
-      first_break = e ∙ ap (λ (k : ℕ). earlier a.first_break (option_map (shifted_break k) (says a.memory).first_break))
-          long
-          ∙ ap (λ v. earlier a.first_break (option_map (shifted_break (length x)) v)) broken
-          ∙ ap (λ v. earlier v (option_map (shifted_break (length x)) rest.first_break)) seen.first_break
+      first_break = e
+          ∙ ap (λ (k : ℕ). option_or a.first_break (option_map (shifted_break k) (says a.memory).first_break)) long
+          ∙ ap (λ v. option_or a.first_break (option_map (shifted_break (length x)) v)) broken
+          ∙ ap (λ v. option_or v (option_map (shifted_break (length x)) rest.first_break)) seen.first_break
           ∙ sym (ap (λ (r : Outcome P). r.first_break) whole);
     }
 

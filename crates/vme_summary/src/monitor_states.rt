@@ -1,7 +1,8 @@
 //! The states of monitors that judge a recording from its opening on.
 
 ghost use Rattle.std.specs.Prelude.{◌≡◌, ◌+◌, ◌^◌, ◌<◌, ◌≤◌, ◌++◌, List, None, length, option_map, unwrap_or};
-ghost use Rattle.vme_monitor.specs.Outcome.{earlier, shifted_break};
+ghost use Rattle.std.specs.Option.{option_or};
+ghost use Rattle.vme_monitor.specs.Outcome.{shifted_break};
 ghost use Rattle.vme_monitor.specs.OverStretches.{observed, phase_step};
 ghost use Rattle.vme_monitor.specs.Run.{break_of_fault, machine_step, quiet as quiet_next};
 ghost use Rattle.vme_monitor.specs.StepRuns.{seen_in};
@@ -51,7 +52,7 @@ impl<P: Enumerable> MonitorState<P> {
     pub(crate) fn after(&self, table: &Table<P>, steps: u32) -> MonitorState<P>
         requires { steps + table_steps table.now < 2 ^ 32 }
         ensures memory { result.memory ≡ (table_outcome table.now self.now.memory).leaving }
-        ensures first_break { result.first_break ≡ earlier self.now.first_break
+        ensures first_break { result.first_break ≡ option_or self.now.first_break
             (option_map (shifted_break steps) (table_outcome table.now self.now.memory).first_break) }
     {
         let first_break = match self.first_break {
@@ -139,7 +140,7 @@ pub(crate) fn advance<R: Rules>(
     ensures memory { state.new.memory
         ≡ (machine_step (observed R.observation) (phase_step R.begin R.start_marks R.reset_marks R.end_fault R.next)
         state.old.memory view.now.before view.now.after changes.now).memory }
-    ensures first_break { state.new.first_break ≡ earlier state.old.first_break
+    ensures first_break { state.new.first_break ≡ option_or state.old.first_break
         (option_map (break_of_fault instant time)
         (machine_step (observed R.observation) (phase_step R.begin R.start_marks R.reset_marks R.end_fault R.next)
         state.old.memory view.now.before view.now.after changes.now).fault) }

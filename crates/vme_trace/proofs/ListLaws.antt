@@ -3,7 +3,7 @@ use Rattle.std.proofs.Common.{◌≡◌, ◌≢◌, ◌⊎◌, ℕ, zero, suc, �
 use Rattle.std.proofs.Common.{refl, sym, ap, ◌∙◌, arith, inl, inr, ⊎_elim}
 use Rattle.std.specs.Prelude.{All, Option, None, Some, slice_get}
 use Rattle.std.specs.List.{AllZip, last_or}
-use Rattle.std.specs.Option.{option_or}
+use Rattle.std.specs.Option.{option_map, option_or}
 use Rattle.std.proofs.Math.Nat.{zero-add}
 use Rattle.std.proofs.Math.Seq.{drop-append_seam, take-append_seam}
 use Rattle.std.proofs.lemmas.List.Elements.{All-drop, All-same, All-take}
@@ -13,6 +13,17 @@ use Rattle.std.proofs.lemmas.Option.{none-some, same_Some}
 pub option_or-none : {A : Type 0} (o : Option A) → option_or o None ≡ o
 option_or-none None = refl
 option_or-none (Some a) = refl
+
+-- the first of three options that has a value, however they are grouped
+pub option_or-assoc : {A : Type 0} (a b c : Option A) → option_or (option_or a b) c ≡ option_or a (option_or b c)
+option_or-assoc None b c = refl
+option_or-assoc (Some x) b c = refl
+
+-- a function may be applied before or after choosing the first option that has a value
+pub option_map-option_or : {A B : Type 0} (f : A → B) (a b : Option A)
+    → option_map f (option_or a b) ≡ option_or (option_map f a) (option_map f b)
+option_map-option_or f None b = refl
+option_map-option_or f (Some x) b = refl
 
 -- the last element is the one at the last index
 last_or-at : {A : Type 0} (o : Option A) (x : A) (xs : List A) → last_or o (x ∷ xs) ≡ slice_get (x ∷ xs) (length xs)
