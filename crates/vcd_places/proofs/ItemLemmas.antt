@@ -3,6 +3,7 @@
 use Rattle.std.proofs.Common.{◌≡◌, ℕ, ◌≤◌, Bool, true, false, List, [], ◌∷◌, ◌++◌, Option, Some, None, Result, Ok, Err}
 use Rattle.std.proofs.Common.{length, take, drop, refl, sym, ap, subst, ◌∙◌, append_assoc}
 use Rattle.std.specs.Prelude.{IfNone}
+use Rattle.std.specs.Result.{result_ok}
 use Rattle.std.specs.List.{cons_option, list_any}
 use Rattle.std.proofs.lemmas.Bool.{or_parts}
 use Rattle.vcd_read.specs.declared.fault.FaultKind.{FaultKind}
@@ -19,7 +20,7 @@ use Rattle.vcd_read.proofs.BodyLemmas.{body_from-shape, commented}
 use Rattle.vcd_read.proofs.ContextLemmas.{number-time_of}
 use Rattle.vcd_places.specs.Items.{BegunKind, code_kind, comment_kind, kind_of, single_kind, time_kind}
 use Rattle.vcd_places.specs.Places.{AreWholeItems, IsAtTime, body_in, starts_at_boundary}
-use Rattle.vcd_places.specs.Places.{if_time, item_time}
+use Rattle.vcd_places.specs.Places.{item_time}
 use Rattle.vcd_places.specs.Places.{item_times}
 use Rattle.vcd_places.specs.NextTokens.{IsNextToken, IsTakenToEnd, ends_section}
 use Rattle.vcd_places.specs.Times.{IsBetweenItems, times_left}
@@ -78,7 +79,7 @@ module _ (t : Token) where
 
   -- a token that is a time is an item, with this time if it is below 2^64
   pub IsItem-time : (digits : List ℕ) → kind_of (shape_of t.bytes) ≡ time_kind digits
-      → IsItem (t ∷ []) (cons_option (if_time (time_of digits)) [])
+      → IsItem (t ∷ []) (cons_option (result_ok (time_of digits)) [])
   unfolding body_from item_times
   IsItem-time digits is = record {
     whole = λ more. body_from-time digits is more
@@ -309,13 +310,13 @@ IsAtTime-time digits time b one is e =
 -- a time token below 2^64 is an item with this time
 pub IsItem-timed : (t : Token) (digits : List ℕ) (time : ℕ) → kind_of (shape_of t.bytes) ≡ time_kind digits
     → time_of digits ≡ Ok time → IsItem (t ∷ []) (time ∷ [])
-IsItem-timed t digits time is e = subst (λ (r : Result ℕ FaultKind). IsItem (t ∷ []) (cons_option (if_time r) [])) e
+IsItem-timed t digits time is e = subst (λ (r : Result ℕ FaultKind). IsItem (t ∷ []) (cons_option (result_ok r) [])) e
     (IsItem-time t digits is)
 
 -- a time token whose digits aren't a number below 2^64 is an item without a time
 pub IsItem-untimed : (t : Token) (digits : List ℕ) {kind : FaultKind} → kind_of (shape_of t.bytes) ≡ time_kind digits
     → time_of digits ≡ Err kind → IsItem (t ∷ []) []
-IsItem-untimed t digits is e = subst (λ (r : Result ℕ FaultKind). IsItem (t ∷ []) (cons_option (if_time r) [])) e
+IsItem-untimed t digits is e = subst (λ (r : Result ℕ FaultKind). IsItem (t ∷ []) (cons_option (result_ok r) [])) e
     (IsItem-time t digits is)
 
 -- after an item without a time, `next` is between two items, and the same times are left

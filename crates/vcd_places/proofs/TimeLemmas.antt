@@ -2,6 +2,7 @@
 use Rattle.std.proofs.Common.{◌≡◌, ℕ, Bool, true, false, eqb, List, [], ◌∷◌, Result, Ok, sym, ap, subst}
 use Rattle.std.proofs.Common.{true≢false, ◌⊎◌, inl, inr}
 use Rattle.std.specs.Prelude.{◌||◌}
+use Rattle.std.specs.Result.{result_ok}
 use Rattle.std.specs.List.{cons_option}
 use Rattle.std.proofs.lemmas.Bool.{eq-eqb, eqb-true, or_cases, or_right}
 use Rattle.vcd_read.specs.declared.fault.FaultKind.{FaultKind}
@@ -11,7 +12,7 @@ use Rattle.vcd_read.specs.Body.{BodyContext, BodyItem, change}
 use Rattle.vcd_read.specs.Body.{context_after_all, time_item, wrong}
 use Rattle.vcd_read.specs.Meaning.{times_from}
 use Rattle.vcd_read.proofs.ContextLemmas.{context_after-time, context_after_all-first, now-now_after}
-use Rattle.vcd_places.specs.Places.{if_time, item_times}
+use Rattle.vcd_places.specs.Places.{item_times}
 use Rattle.vcd_places.specs.Times.{IsAscendingFrom, is_among}
 
 module _ (nets : List Net) where
@@ -25,7 +26,7 @@ module _ (nets : List Net) where
       let read = context_after_all-first nets (time_item line digits) items s end e in
       let time = context_after-time nets s read.0 line digits read.1 in
       let rest = IsAscendingFrom-item_times items read.0 end read.2 in
-      subst (λ (r : Result ℕ FaultKind). IsAscendingFrom s.now (cons_option (if_time r) (item_times items)))
+      subst (λ (r : Result ℕ FaultKind). IsAscendingFrom s.now (cons_option (result_ok r) (item_times items)))
       (sym time.0)
       (time.2, subst (λ (n : ℕ). IsAscendingFrom n (item_times items)) time.1 rest)
   IsAscendingFrom-item_times (wrong line kind ∷ items) s end e = absurd cc
@@ -51,7 +52,7 @@ module _ (nets : List Net) where
   IsKnown-times_from (time_item line digits ∷ items) s end now time e among =
       let read = context_after_all-first nets (time_item line digits) items s end e in
       let n : ℕ = number digits in
-      inr (subst (λ (r : Result ℕ FaultKind). is_among time (cons_option (if_time r) (item_times items)) ≡ true)
+      inr (subst (λ (r : Result ℕ FaultKind). is_among time (cons_option (result_ok r) (item_times items)) ≡ true)
       (sym (context_after-time nets s read.0 line digits read.1).0)
       (elim (or_cases (eqb n time) (is_among time (times_from n items)) among) [
         | inl is ↦ eqb-or n time (is_among time (item_times items)) (sym (eqb-true n time is))

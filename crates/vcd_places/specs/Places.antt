@@ -1,12 +1,12 @@
 -- The places of a text at which text can be inserted: before the end of its definitions, and between the items of
 -- its body. A place is the count of bytes before it.
 use Rattle.std.specs.Prelude.{◌≡◌, ℕ, ◌≤◌, Bool, true, false, ◌&&◌, not, List, [], ◌∷◌, ◌++◌, length, take, drop, codes}
-use Rattle.std.specs.Prelude.{bytes_eq, Option, Some, None, is_some, unwrap_or, Result, Ok, Err}
+use Rattle.std.specs.Prelude.{bytes_eq, Option, Some, None, is_some, unwrap_or}
+use Rattle.std.specs.Result.{result_ok}
 use Rattle.std.specs.List.{cons_option, last_or, list_any}
 use Rattle.std.specs.Option.{option_map_or}
 use Rattle.vcd_read.specs.Tokens.{Token, is_space, tokens}
 use Rattle.vcd_read.specs.Numbers.{time_of}
-use Rattle.vcd_read.specs.declared.fault.FaultKind.{FaultKind}
 use Rattle.vcd_read.specs.Header.{HeaderItem, whole, unfinished, stray, between, header_from}
 use Rattle.vcd_read.specs.Body.{BodyItem, time_item, ready}
 use Rattle.vcd_read.specs.Body.{body_from}
@@ -51,14 +51,9 @@ ends_definitions_at text place =
 
 -- ---- the body
 
--- the time, if the digits denote one
-abbrev pub if_time : Result ℕ FaultKind → Option ℕ
-if_time (Ok time) = Some time
-if_time (Err kind) = None
-
 -- the time of a time item, if it is below 2^64
 abbrev pub item_time : BodyItem → Option ℕ
-item_time (time_item line digits) = if_time (time_of digits)
+item_time (time_item line digits) = result_ok (time_of digits)
 item_time item = None
 
 -- the times below 2^64 of the time items, in their order
