@@ -5,7 +5,7 @@ use Rattle.std.specs.Prelude.{option_map, option_and_then, ◌==◌}
 use Rattle.std.specs.Option.{is_some}
 use Rattle.vme_trace.specs.Instants.{any, least, greatest}
 use Rattle.vme_trace.specs.LineNumbers.{BR, grant, has_line}
-use Rattle.vme_trace.specs.Levels.{level_at, is_low, is_high}
+use Rattle.vme_trace.specs.Levels.{level_at, is_low, is_high, seen_level}
 use Rattle.vme_trace.specs.Trace.{Trace, levels_at}
 use Rattle.vme_trace.specs.Signals.{near, low, high, falls, rises}
 use Rattle.vme_trace.specs.Tenures.{is_granting, grant_falls, taken_grant, tenure_level, tenure_slot, has_reached}
@@ -14,7 +14,7 @@ use Rattle.vme_trace.proofs.Ranges.{any-alike, every-alike, least-alike, least-f
 use Rattle.vme_trace.proofs.Ranges.{is_some-least}
 use Rattle.vme_trace.proofs.OpenTransfers.{suc-sub-one}
 use Rattle.vme_trace.proofs.StretchEnds.{slots_at}
-use Rattle.vme_chains.specs.GrantLevels.{shown, is_low_in, is_high_in, falls_between, rises_between, low_near}
+use Rattle.vme_chains.specs.GrantLevels.{is_low_in, is_high_in, falls_between, rises_between, low_near}
 use Rattle.vme_chains.specs.GrantLevels.{high_near, requested_in, grant_begins, granted_level, reaches, reached_slot}
 use Rattle.vme_chains.specs.GrantLevels.{taken_at, taken_in, taken_between, is_ungranted}
 use Rattle.vme_chains.specs.GrantMemory.{is_in}
@@ -22,11 +22,12 @@ use Rattle.vme_chains.proofs.GrantLines.{has_line-net}
 
 module _ (t : Trace) where
   -- a line that the backplane has is shown with its level
-  shown-existing : (k l : ℕ) → has_line t.opening.slots l ≡ true → shown (levels_at t k) l ≡ level_at (levels_at t k) l
+  shown-existing : (k l : ℕ) → has_line t.opening.slots l ≡ true
+      → seen_level (levels_at t k) l ≡ level_at (levels_at t k) l
   shown-existing k l h = rw (slots_at t k, h) refl
 
   -- a line that the backplane doesn't have is shown as unknown
-  shown-absent : (k l : ℕ) → has_line t.opening.slots l ≡ false → shown (levels_at t k) l ≡ Unknown
+  shown-absent : (k l : ℕ) → has_line t.opening.slots l ≡ false → seen_level (levels_at t k) l ≡ Unknown
   shown-absent k l h = rw (slots_at t k, h) refl
 
   -- a line of the backplane is shown low just if it is low at the instant

@@ -3,16 +3,16 @@ use Rattle.std.proofs.Common.{◌≡◌, ℕ, ◌-◌, ◌<◌, ◌≤◌, true,
 use Rattle.std.proofs.Common.{ap, arith}
 use Rattle.std.proofs.lemmas.Bool.Decides.{nat_tests}
 use Rattle.vme_trace.specs.LineNumbers.{has_line, is_slot_grant, input_of, grant, BR}
-use Rattle.vme_trace.specs.Levels.{Levels, is_low, is_high}
+use Rattle.vme_trace.specs.Levels.{Levels, is_low, is_high, seen_level}
 use Rattle.vme_trace.specs.Changes.{is_changed}
 use Rattle.vme_trace.specs.Trace.{changed}
 use Rattle.vme_trace.specs.declared.step.Change.{Change}
 use Rattle.vme_trace.proofs.Changing.{slots-kept, level-kept, not_high_and_low, not_low_and_high}
-use Rattle.vme_chains.specs.GrantLevels.{shown, falls_between, rises_between}
+use Rattle.vme_chains.specs.GrantLevels.{falls_between, rises_between}
 
 -- a line that isn't changed keeps its level
-pub shown-unchanged : (v : Levels) (cs : List Change) (l : ℕ) → is_changed cs l ≡ false → shown (changed v cs) l
-    ≡ shown v l
+pub shown-unchanged : (v : Levels) (cs : List Change) (l : ℕ) → is_changed cs l ≡ false → seen_level (changed v cs) l
+    ≡ seen_level v l
 shown-unchanged v cs l h = rw (slots-kept v cs, level-kept v cs l h) refl
 
 -- a line that isn't changed doesn't fall
@@ -20,14 +20,14 @@ pub falls_between-changed_elsewhere : (v : Levels) (cs : List Change) (l : ℕ) 
     → falls_between v (changed v cs) l
     ≡ false
 falls_between-changed_elsewhere v cs l h =
-    ap (λ x. is_high (shown v l) && is_low x) (shown-unchanged v cs l h) ∙ not_high_and_low (shown v l)
+    ap (λ x. is_high (seen_level v l) && is_low x) (shown-unchanged v cs l h) ∙ not_high_and_low (seen_level v l)
 
 -- a line that isn't changed doesn't rise
 pub rises_between-changed_elsewhere : (v : Levels) (cs : List Change) (l : ℕ) → is_changed cs l ≡ false
     → rises_between v (changed v cs) l
     ≡ false
 rises_between-changed_elsewhere v cs l h =
-    ap (λ x. is_low (shown v l) && is_high x) (shown-unchanged v cs l h) ∙ not_low_and_high (shown v l)
+    ap (λ x. is_low (seen_level v l) && is_high x) (shown-unchanged v cs l h) ∙ not_low_and_high (seen_level v l)
 
 -- a backplane has the nets of its grant chains
 pub has_line-net : (slots n k : ℕ) → n < 4 → k ≤ slots → slots ≤ 21 → has_line slots (grant n k) ≡ true

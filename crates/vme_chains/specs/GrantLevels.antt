@@ -3,27 +3,21 @@ use Rattle.std.specs.Prelude.{ℕ, ◌+◌, ◌-◌, ◌==◌, Bool, false, not,
 use Rattle.std.specs.Prelude.{option_map, option_and_then, nat_le, nat_lt, if◌then◌else◌}
 use Rattle.std.specs.Option.{is_some}
 use Rattle.vme_trace.specs.Instants.{any, every, least, greatest}
-use Rattle.vme_trace.specs.LineNumbers.{AS, BBSY, BR, grant, iack, is_grant, is_slot_grant, is_arbiter_grant, has_line}
-use Rattle.vme_trace.specs.Levels.{Levels, level_at, is_low, is_high}
-use Rattle.vme_trace.specs.declared.level.Level.{Level}
-use Rattle.vme_trace.specs.declared.level.Level.TheVariants.{Unknown}
+use Rattle.vme_trace.specs.LineNumbers.{AS, BBSY, BR, grant, iack, is_grant, is_slot_grant, is_arbiter_grant}
+use Rattle.vme_trace.specs.Levels.{Levels, is_low, is_high, seen_level}
 use Rattle.vme_trace.specs.declared.rule.Rule.{Rule}
 use Rattle.vme_trace.specs.declared.rule.Rule.TheVariants.{G1, G2, G3, G4}
 use Rattle.vme_trace.specs.declared.step.Change.{Change}
 use Rattle.vme_monitor.specs.declared.mark.BusGrant.{BusGrant}
 use Rattle.vme_chains.specs.declared.grant_memory.LevelSet.{LevelSet}
 
--- the level of a line; `Unknown` for a line that the backplane doesn't have
-abbrev pub shown : Levels → ℕ → Level
-shown v l = if has_line v.slots l then level_at v l else Unknown
-
 -- the line is there, and low
 abbrev pub is_low_in : Levels → ℕ → Bool
-is_low_in v l = is_low (shown v l)
+is_low_in v l = is_low (seen_level v l)
 
 -- the line is there, and high
 abbrev pub is_high_in : Levels → ℕ → Bool
-is_high_in v l = is_high (shown v l)
+is_high_in v l = is_high (seen_level v l)
 
 -- the line falls at the step
 abbrev pub falls_between : Levels → Levels → ℕ → Bool

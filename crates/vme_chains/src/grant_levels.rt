@@ -4,6 +4,7 @@ ghost use Rattle.std.specs.Prelude.{◌≡◌, ℕ, Bool, ◌+◌, ◌-◌, ◌�
 ghost use Rattle.vme_trace.specs.Changes.{first_changed};
 ghost use Rattle.vme_trace.specs.Instants.{greatest};
 ghost use Rattle.vme_trace.specs.LineNumbers.{grant, is_grant as is_grant_line, is_slot_grant};
+ghost use Rattle.vme_trace.specs.Levels.{seen_level};
 ghost use Rattle.vme_chains.specs.GrantLevels.{falls_between, grant_begins as grant_begins_of};
 ghost use Rattle.vme_chains.specs.GrantLevels.{granted_level as granted_level_of, high_near};
 ghost use Rattle.vme_chains.specs.GrantLevels.{is_arbitration as is_arbitration_line};
@@ -11,7 +12,7 @@ ghost use Rattle.vme_chains.specs.GrantLevels.{is_cycle_unowned as is_cycle_unow
 ghost use Rattle.vme_chains.specs.GrantLevels.{is_net_broken as is_net_broken_of};
 ghost use Rattle.vme_chains.specs.GrantLevels.{is_other_granted as is_other_granted_of};
 ghost use Rattle.vme_chains.specs.GrantLevels.{is_ungranted as is_ungranted_of, low_near, reaches, requested_in};
-ghost use Rattle.vme_chains.specs.GrantLevels.{rises_between, shown as shown_of, taken_between as taken_between_of};
+ghost use Rattle.vme_chains.specs.GrantLevels.{rises_between, taken_between as taken_between_of};
 ghost use Rattle.vme_chains.specs.GrantLevels.{taken_in as taken_in_of, touches_arbitration as touches_arbitration_of};
 
 use crate::grant_memory::LevelSet;
@@ -20,7 +21,7 @@ use vme_trace::{Change, Level, Line, Lines, Rule};
 
 /// The level of a line; `Unknown` for a line that the backplane doesn't have.
 fn shown(lines: &Lines, line: Line) -> Level
-    ensures { result ≡ shown_of lines.now line }
+    ensures { result ≡ seen_level lines.now line }
 {
     if lines.has(line) {
         lines.level(line)

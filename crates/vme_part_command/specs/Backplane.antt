@@ -1,9 +1,9 @@
 -- The sum of a backplane.
 use Rattle.std.specs.Prelude.{ℕ, List, ◌∷◌, map}
 use Rattle.std.specs.List.{range_with_len}
-use Rattle.vme_trace.specs.Levels.{Levels}
+use Rattle.vme_trace.specs.Levels.{Levels, seen_level}
 use Rattle.vme_trace.specs.LineNumbers.{line_count}
-use Rattle.vme_part_format.specs.PartText.{level_code, seen_level}
+use Rattle.vme_part_format.specs.PartText.{level_code}
 use Rattle.vme_part_format.specs.Sums.{sum_of}
 
 -- the code of the level of line l before any change: that of a constant, or Unknown if the line has a bit of a variable

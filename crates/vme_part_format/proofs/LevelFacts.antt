@@ -9,12 +9,12 @@ use Rattle.std.specs.List.{range_with_len}
 use Rattle.std.proofs.lemmas.Bool.{eqb-true}
 use Rattle.std.proofs.lemmas.List.FromFn.{length-map-range_with_len}
 use Rattle.std.proofs.lemmas.Option.{same_Some}
-use Rattle.vme_trace.specs.Levels.{Levels, level_at}
+use Rattle.vme_trace.specs.Levels.{Levels, level_at, seen_level}
 use Rattle.vme_trace.specs.LineNumbers.{has_line, line_count}
 use Rattle.vme_trace.specs.declared.level.Level.{Level}
 use Rattle.vme_trace.specs.declared.level.Level.TheVariants.{Low, High, Unknown}
 use Rattle.vme_part_format.specs.declared.fault.PartFaultKind.TheVariants as fault
-use Rattle.vme_part_format.specs.PartText.{level_code, levels_bytes, packed, quad, seen_level, seen_levels}
+use Rattle.vme_part_format.specs.PartText.{level_code, levels_bytes, packed, quad, seen_levels}
 use Rattle.vme_part_format.specs.Reading.{◌>>=◌, coded_level, fault_at, four, levels_at, or_fault, packed_at}
 use Rattle.vme_part_format.specs.Reading.{unpacked}
 use Rattle.vme_part_format.proofs.FieldLaws.{IsBytes, Takes, Takes-append, bind_ok, byte_at-ok, or_fault-ok}

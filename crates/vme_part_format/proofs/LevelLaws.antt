@@ -4,11 +4,11 @@ use Rattle.std.proofs.Common.{◌∙◌, add-one, append_assoc, arith}
 use Rattle.std.proofs.lemmas.List.{append-nil, drop_all}
 use Rattle.std.proofs.Math.Seq.{drop-cons}
 use Rattle.std.proofs.lemmas.List.FromFn.{get_or-map-range_with_len, length-map-range_with_len}
-use Rattle.vme_trace.specs.Levels.{Levels}
+use Rattle.vme_trace.specs.Levels.{Levels, seen_level}
 use Rattle.vme_trace.specs.LineNumbers.{line_count}
 use Rattle.vme_trace.specs.declared.level.Level.{Level}
 use Rattle.vme_trace.specs.declared.level.Level.TheVariants.{Unknown}
-use Rattle.vme_part_format.specs.PartText.{packed, quad, seen_level, seen_levels}
+use Rattle.vme_part_format.specs.PartText.{packed, quad, seen_levels}
 
 -- the levels from line n on are that of line n, and those from line n + 1 on
 seen_levels-drop_one : (v : Levels) (n m : ℕ) → n < line_count → m ≡ n + 1

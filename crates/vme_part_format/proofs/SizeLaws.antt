@@ -6,7 +6,7 @@ use Rattle.std.specs.Prelude.{All, flat_map, if◌then◌else◌}
 use Rattle.std.specs.Int.{w16, w32, w64, to_le_bytes}
 use Rattle.std.proofs.lemmas.List.Elements.{All-head, All-tail}
 use Rattle.std.proofs.lemmas.List.FromFn.{length-map-range_with_len}
-use Rattle.vme_trace.specs.Levels.{Levels}
+use Rattle.vme_trace.specs.Levels.{Levels, seen_level}
 use Rattle.vme_trace.specs.LineNumbers.{line_count}
 use Rattle.vme_trace.specs.declared.level.Level.{Level}
 use Rattle.vme_part_format.specs.declared.segment.SegmentTimes.{SegmentTimes}
@@ -18,7 +18,7 @@ use Rattle.vme_monitor.specs.declared.mark.MarkKind.TheVariants as kind
 use Rattle.vme_part_format.specs.declared.wide.WideMark.{WideMark}
 use Rattle.vme_part_format.specs.PartText.{bytes_of_width, entry_bytes, first_break_bytes, front_bytes, head_bytes}
 use Rattle.vme_part_format.specs.PartText.{kind_bytes, levels_bytes, mark_bytes, marks_bytes, spaced_bytes, width_code}
-use Rattle.vme_part_format.specs.PartText.{lines_bytes, node_bytes, packed, part_bytes, body_bytes, seen_level}
+use Rattle.vme_part_format.specs.PartText.{lines_bytes, node_bytes, packed, part_bytes, body_bytes}
 use Rattle.vme_part_format.specs.PartText.{seen_levels}
 use Rattle.vme_part_format.specs.PartText.{segment_bytes, summed_bytes, table_bytes, tables_bytes, times_bytes, written}
 use Rattle.vme_part_format.specs.Sizes.{IsCompact, IsCompactPart, IsSmall, marks_in, marks_in_nodes, marks_in_segment}

@@ -3,8 +3,8 @@ use Rattle.std.specs.Prelude.{ℕ, ◌+◌, ◌-◌, ◌*◌, ◌==◌, Bool, tr
 use Rattle.std.specs.Prelude.{take, drop, Option, None, Some, codes, nat_lt, if◌then◌else◌}
 use Rattle.std.specs.List.{range_with_len}
 use Rattle.std.specs.Int.{w16, w32, w64, to_le_bytes}
-use Rattle.vme_trace.specs.Levels.{Levels, level_at}
-use Rattle.vme_trace.specs.LineNumbers.{DTACK, has_line, line_count}
+use Rattle.vme_trace.specs.Levels.{Levels, seen_level}
+use Rattle.vme_trace.specs.LineNumbers.{DTACK, line_count}
 use Rattle.vme_trace.specs.Names.{rule_number}
 use Rattle.vme_trace.specs.declared.class.Class.{Class}
 use Rattle.vme_trace.specs.declared.class.Class.TheVariants as class
@@ -40,10 +40,6 @@ packed (a ∷ []) = []
 packed (a ∷ b ∷ []) = []
 packed (a ∷ b ∷ c ∷ []) = []
 packed (a ∷ b ∷ c ∷ d ∷ ls) = quad a b c d ∷ packed ls
-
--- the level of line l, which is Unknown if the backplane doesn't have the line
-abbrev pub seen_level : Levels → ℕ → Level
-seen_level v l = if has_line v.slots l then level_at v l else Unknown
 
 -- the levels of all lines, by their numbers
 abbrev pub seen_levels : Levels → List Level

@@ -2,7 +2,8 @@
 
 ghost use Rattle.std.specs.Prelude.{◌≡◌, ◌+◌, ◌≤◌, ◌<◌, OnOk, ◌++◌};
 ghost use Rattle.vme_trace.specs.LineNumbers.{line_count};
-ghost use Rattle.vme_part_format.specs.PartText.{level_code, levels_bytes, quad, seen_level};
+ghost use Rattle.vme_trace.specs.Levels.{seen_level};
+ghost use Rattle.vme_part_format.specs.PartText.{level_code, levels_bytes, quad};
 ghost use Rattle.vme_part_format.specs.Reading.{Gives, SetsFour, SetsLevel, coded_level, levels_at};
 
 use crate::fault::{FieldError, PartFaultKind};

@@ -9,12 +9,11 @@ use Rattle.std.proofs.lemmas.List.{drop_all, drop_more, get_or-map, length-map, 
 use Rattle.std.proofs.lemmas.List.{take_more_set}
 use Rattle.std.proofs.lemmas.List.Elements.{All-cons, All-nil, All-push}
 use Rattle.std.proofs.lemmas.List.FromFn.{map-range_with_len_more}
-use Rattle.vme_trace.specs.Levels.{Levels, set_level}
+use Rattle.vme_trace.specs.Levels.{Levels, seen_level, set_level}
 use Rattle.vme_trace.specs.LineNumbers.{line_count}
 use Rattle.vme_trace.specs.declared.level.Level.{Level}
 use Rattle.vme_part_format.specs.Bounds.{FitMarks, FitNodes, FitsEntry, FitsLevels, FitsMark, FitsNode, FitsTable}
 use Rattle.vme_part_format.specs.Bounds.{FitSegments, FitsPart, FitsSegment, HasNodes, stays}
-use Rattle.vme_part_format.specs.PartText.{seen_level}
 use Rattle.vme_part_format.specs.Sizes.{IsCompact}
 use Rattle.vme_part_format.specs.Tables.{NodeValue, node_value, part_value, segment_value, table_value}
 use Rattle.vme_part_format.specs.declared.part.Part.{Part}

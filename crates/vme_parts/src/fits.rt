@@ -2,13 +2,12 @@
 
 ghost use Rattle.std.specs.Prelude.{◌≡◌, ◌+◌, ◌<◌, ◌^◌, All, IfSome, IsTrue, Some, false, length, map};
 ghost use Rattle.std.specs.Prelude.{slice_get};
-ghost use Rattle.vme_trace.specs.Levels.{set_level};
+ghost use Rattle.vme_trace.specs.Levels.{seen_level, set_level};
 ghost use Rattle.vme_trace.specs.LineNumbers.{line_count};
 ghost use Rattle.vme_part_format.specs.Bounds.{FitMarks, FitNodes, FitsBreak, FitsEntry, FitsKind, FitsLevels};
 ghost use Rattle.vme_part_format.specs.Bounds.{FitsMark};
 ghost use Rattle.vme_part_format.specs.Bounds.{FitsNode, FitsNumbers, FitsPart, FitsSegment, FitsTable, FitsTimes};
 ghost use Rattle.vme_part_format.specs.Bounds.{stays};
-ghost use Rattle.vme_part_format.specs.PartText.{seen_level};
 ghost use Rattle.vme_part_format.specs.Sizes.{IsCompact, IsCompactPart};
 ghost use Rattle.vme_part_format.specs.Tables.{node_value, part_value, segment_value, table_value};
 

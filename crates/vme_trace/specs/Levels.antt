@@ -3,6 +3,7 @@ use Rattle.std.specs.Prelude.{ℕ, Bool, true, false, not, ◌+◌, ◌==◌, �
 use Rattle.std.specs.Prelude.{nat_le, if◌then◌else◌}
 use Rattle.vme_trace.specs.Instants.{any, every}
 use Rattle.vme_trace.specs.LineNumbers.{line_count, AS, BERR, IACK, BBSY, BR, grant, iack, SYSRESET, is_net, is_control}
+use Rattle.vme_trace.specs.LineNumbers.{has_line}
 use Rattle.vme_trace.specs.declared.level.Level.{Level}
 use Rattle.vme_trace.specs.declared.level.Level.TheVariants.{Low, High, Unknown}
 
@@ -14,6 +15,10 @@ pub record Levels : Type 0 where
 -- the level of line l
 abbrev pub level_at : Levels → ℕ → Level
 level_at v l = unwrap_or (slice_get v.levels l) Unknown
+
+-- the level of line l, which is Unknown if the backplane doesn't have the line
+abbrev pub seen_level : Levels → ℕ → Level
+seen_level v l = if has_line v.slots l then level_at v l else Unknown
 
 -- these levels, but x on line l
 abbrev pub set_level : Levels → ℕ → Level → Levels

@@ -1,7 +1,6 @@
 use Rattle.std.proofs.Common.{◌≡◌, arith}
-use Rattle.vme_trace.specs.Levels.{set_level}
+use Rattle.vme_trace.specs.Levels.{seen_level, set_level}
 use Rattle.vme_trace.proofs.LevelsEquality.{levels_eq-Decides}
-use Rattle.vme_part_format.specs.PartText.{seen_level}
 use Rattle.vme_parts.proofs.Measures.{SeesBefore-next, FitsLevels-all_seen}
 use Rattle.vme_parts.proofs.fits.levels_fit.Goals as goal
 
