@@ -1,6 +1,7 @@
 -- The dump that a text denotes.
 use Rattle.std.specs.Prelude.{◌≡◌, ℕ, ◌&&◌, ◌==◌, if◌then◌else◌, List, [], ◌∷◌, length, map, Option, Some, None}
 use Rattle.std.specs.Prelude.{option_map, unwrap_or, Result, Ok, Err, filter_map, nat_eq}
+use Rattle.std.specs.Prelude.{Bool, true, false}
 use Rattle.std.specs.List.{range_with_len, dedup}
 use Rattle.vcd_read.specs.declared.dump.Bit.{Bit}
 use Rattle.vcd_read.specs.declared.dump.Value.{Value}
@@ -127,6 +128,11 @@ ReadFailsAs line kind read = read ≡ Err (record { line = line; kind = kind })
 -- the fault is what reading gives, unless memory ran out
 abbrev pub ReadFails : {Y : Type 0} → VcdFault → Result Y VcdFault → Type 0
 ReadFails fault read = ReadFailsAs fault.line fault.kind read
+
+-- a fault of this kind is want of memory
+abbrev pub is_want_of_memory : FaultKind → Bool
+is_want_of_memory Memory = true
+is_want_of_memory kind = false
 
 -- what a function returned, seen by view, is what reading gives, unless memory ran out
 abbrev pub ReadGives : {X Y : Type 0} → (X → Y) → Result X VcdFault → Result Y VcdFault → Type 0

@@ -5,7 +5,7 @@ use Rattle.std.proofs.Common.{◌∙◌, append-nil, arith, length-append}
 use Rattle.vcd_read.specs.Body.{body_from, ready}
 use Rattle.vcd_read.specs.Fronts.{going_on}
 use Rattle.vcd_read.specs.Header.{◌>>=◌, appended, nothing_declared}
-use Rattle.vcd_read.specs.Meaning.{ReadFails, ReadFailsAs, dump_of, instants_from}
+use Rattle.vcd_read.specs.Meaning.{ReadFails, ReadFailsAs, dump_of, instants_from, is_want_of_memory}
 use Rattle.vcd_read.specs.Reached.{Reached, rest_of}
 use Rattle.vcd_read.specs.Reading.{EndsBetweenTokens, line_behind}
 use Rattle.vcd_read.specs.Sections.{Defined, Headed, defined, header_of}
@@ -23,7 +23,7 @@ use Rattle.vcd_read.proofs.ReadLemmas.{ReadFails-first, ReadFailsAs-before_total
 use Rattle.vcd_read.proofs.CurrentValues.{CurrentValues}
 use Rattle.vcd_read.proofs.BodyFoldLemmas.{Ends, Follows, ReadFails-followed, ok-followed, Follows-fold_body}
 use Rattle.vme_declarations.specs.Surveys.{IsSurveyOf, Survey, body_ahead, count_after, count_ahead}
-use Rattle.vme_declarations.specs.Surveys.{definitions_of, is_want_of_memory, next_count, same_count, survey_of}
+use Rattle.vme_declarations.specs.Surveys.{definitions_of, next_count, same_count, survey_of}
 use Rattle.vme_declarations.specs.Surveys.{variables_by, variables_in, with_count}
 
 -- ---- faults

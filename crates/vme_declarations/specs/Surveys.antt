@@ -1,5 +1,5 @@
 -- The survey of a dump: its variables, and the number of its instants.
-use Rattle.std.specs.Prelude.{◌≡◌, ◌+◌, ℕ, Bool, true, false, List, [], length, Result, Ok, Err}
+use Rattle.std.specs.Prelude.{◌≡◌, ◌+◌, ℕ, List, [], length, Result, Ok, Err}
 use Rattle.vcd_read.specs.Contents.{Contents}
 use Rattle.vcd_read.specs.Header.{◌>>=◌, appended, nothing_declared}
 use Rattle.vcd_read.specs.Meaning.{dump_of}
@@ -9,8 +9,6 @@ use Rattle.vcd_read.specs.BodyFold.{at_end, fold_body}
 use Rattle.vcd_read.specs.Tokens.{tokens, tokens_from}
 use Rattle.vcd_read.specs.declared.dump.Bit.{Bit}
 use Rattle.vcd_read.specs.declared.dump.Variable.{Variable}
-use Rattle.vcd_read.specs.declared.fault.FaultKind.{FaultKind}
-use Rattle.vcd_read.specs.declared.fault.FaultKind.TheVariants.{Memory}
 use Rattle.vcd_read.specs.declared.fault.VcdFault.{VcdFault}
 
 -- ---- the number of instants
@@ -80,10 +78,3 @@ body_ahead front r rest = with_count (variables_in front) (count_ahead r rest)
 -- the survey of a dump whose definitions end in `front`, and whose text ends at `r`
 abbrev pub body_survey : List ℕ → Reached ℕ → Result Survey VcdFault
 body_survey front r = with_count (variables_in front) (outcome_of same_count next_count r)
-
--- ---- faults
-
--- a fault of this kind is want of memory
-abbrev pub is_want_of_memory : FaultKind → Bool
-is_want_of_memory Memory = true
-is_want_of_memory kind = false

@@ -1,7 +1,7 @@
 //! A fault of a dump that isn't want of memory.
 
 ghost use Rattle.std.specs.Prelude.{◌≡◌, false};
-ghost use Rattle.vme_declarations.specs.Surveys.{is_want_of_memory};
+ghost use Rattle.vcd_read.specs.Meaning.{is_want_of_memory};
 
 use vcd_read::VcdFault;
 

@@ -2,14 +2,14 @@
 
 ghost use Rattle.std.specs.Prelude.{◌≡◌, ◌≤◌, ◌++◌, [], ℕ, List, IfErr, IfOk, IfSome, Ok, Err, false, length, take};
 ghost use Rattle.vcd_read.specs.Bodies.{BodyContinuesTo};
-ghost use Rattle.vcd_read.specs.Meaning.{ReadFails, ReadGives, dump_of};
+ghost use Rattle.vcd_read.specs.Meaning.{ReadFails, ReadGives, dump_of, is_want_of_memory};
 ghost use Rattle.vcd_read.specs.Reached.{rest_of};
 ghost use Rattle.vcd_read.specs.Reading.{EndsBetweenTokens, line_behind};
 ghost use Rattle.vcd_read.specs.Tokens.{tokens_from};
 ghost use Rattle.vme_declarations.specs.SurveyStages.{body_reached, stage_ahead, survey_ahead};
 ghost use Rattle.vcd_read.specs.declared.fault.VcdFault.{VcdFault};
 ghost use Rattle.vme_declarations.specs.Surveys.{IsSurveyOf, Survey, body_ahead, body_survey};
-ghost use Rattle.vme_declarations.specs.Surveys.{is_want_of_memory, most_instants, next_count, same_count};
+ghost use Rattle.vme_declarations.specs.Surveys.{most_instants, next_count, same_count};
 ghost use Rattle.vme_declarations.specs.Surveys.{survey_of, variables_in};
 
 use crate::declared::{DeclaredNames, NamesReader};
