@@ -13,9 +13,9 @@ pub record KeepsUp (IsPast : Levels → List Step → Type 0) (count : ℕ) (ope
   pub counted : count ≡ min (length taken) (capture_limit + 1)
   pub kept : length taken ≤ capture_limit → (done : List Step) × IsPast opening done × (done ++ waiting ≡ taken)
 
--- `count` is the number of steps of a part, at most `capture_limit` + 1; if these are at most `capture_limit`, the part
--- was judged by itself, as `IsMadeOf` says
-pub record IsPart (IsMadeOf : ChunkSummary → Levels → List Step → Type 0) (chunk_summary : ChunkSummary) (count : ℕ)
+-- `count` is the number of steps of a chunk, at most `capture_limit` + 1; if these are at most `capture_limit`, the
+-- chunk was judged by itself, as `IsMadeOf` says
+pub record IsChunk (IsMadeOf : ChunkSummary → Levels → List Step → Type 0) (chunk_summary : ChunkSummary) (count : ℕ)
     (opening : Levels) (taken : List Step) (left : Levels) : Type 0 where
   pub counted : count ≡ min (length taken) (capture_limit + 1)
   pub made : length taken ≤ capture_limit → IsMadeOf chunk_summary opening taken

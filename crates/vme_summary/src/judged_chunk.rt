@@ -1,4 +1,4 @@
-//! A part of a recording that was judged by itself.
+//! A chunk: steps of a recording that were judged by themselves.
 
 ghost use Rattle.std.specs.Prelude.{◌≡◌, IfOk};
 ghost use Rattle.vme_trace.specs.Trace.{levels_after};
@@ -26,13 +26,13 @@ pub struct JudgedChunk<J: ChunkJudge> {
 
 impl<J: ChunkJudge> Model for JudgedChunk<J> {
     ghost use Rattle.vme_trace.specs.Trace.{Trace};
-    ghost use Rattle.vme_summary.specs.JudgedSoFar.{IsPart};
+    ghost use Rattle.vme_summary.specs.JudgedSoFar.{IsChunk};
 
     ghost Value = { Trace };
 
     ghost view = { λ p. record { opening = p.opening; steps = p.taken.items } };
 
-    ghost invariant = { λ p. IsPart J.is_made_of p.chunk_summary p.count p.opening p.taken.items p.left };
+    ghost invariant = { λ p. IsChunk J.is_made_of p.chunk_summary p.count p.opening p.taken.items p.left };
 }
 
 /// The lines that some steps leave.
@@ -50,7 +50,7 @@ impl<J: ChunkJudge> JudgedChunk<J> {
     /// Judges `steps` by themselves, which follow the lines `opening`. Only the first 268,435,456, the most that a
     /// recording has, are judged. The only error is that an allocation fails.
     pub fn of(alloc: Global, opening: &Lines, steps: &[Step]) -> Result<JudgedChunk<J>, AllocError>
-        ensures { IfOk result (λ part. part ≡ record { opening = opening.now; steps = steps.now }) }
+        ensures { IfOk result (λ chunk. chunk ≡ record { opening = opening.now; steps = steps.now }) }
     {
         let (first, rest) = steps.split_at(steps.len().min(MOST_STEPS as usize));
         let chunk_summary = J::judge(alloc, opening, first)?;

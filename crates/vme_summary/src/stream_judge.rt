@@ -134,12 +134,12 @@ impl<J: ChunkJudge> StreamJudge<J> {
 
     /// Takes steps that were judged by themselves, and follow those that came. The only error is that an allocation
     /// fails.
-    pub fn pass(&mut self, alloc: Global, part: JudgedChunk<J>) -> Result<(), AllocError>
-        requires { part.opening ≡ levels_after self.old.opening self.old.steps }
-        ensures { OnOk result (self.new ≡ with_steps self.old part.steps) }
+    pub fn pass(&mut self, alloc: Global, chunk: JudgedChunk<J>) -> Result<(), AllocError>
+        requires { chunk.opening ≡ levels_after self.old.opening self.old.steps }
+        ensures { OnOk result (self.new ≡ with_steps self.old chunk.steps) }
     {
-        let count = self.count + part.count;
-        let taken = self.taken.and_all(&part.taken);
+        let count = self.count + chunk.count;
+        let taken = self.taken.and_all(&chunk.taken);
         if count > MOST_STEPS {
             self.count = MOST_STEPS + 1;
             self.taken = taken;
@@ -147,7 +147,7 @@ impl<J: ChunkJudge> StreamJudge<J> {
         }
         self.judging.go_on(alloc, &self.waiting)?;
         self.waiting.clear();
-        self.judging.pass(alloc, part.chunk_summary)?;
+        self.judging.pass(alloc, chunk.chunk_summary)?;
         self.count = count;
         self.taken = taken;
         Ok(())

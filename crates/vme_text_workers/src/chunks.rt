@@ -75,9 +75,9 @@ impl<J: ChunkJudge> ChunkBuffer<J> {
     fn judge(&mut self, alloc: Global) -> Result<(), AllocError>
         ensures { OnOk result (self.new ≡ self.old) }
     {
-        let part = JudgedChunk::of(alloc, &self.left, &self.waiting)?;
-        let left = *part.left();
-        self.chunks.push(part)?;
+        let chunk = JudgedChunk::of(alloc, &self.left, &self.waiting)?;
+        let left = *chunk.left();
+        self.chunks.push(chunk)?;
         self.left = left;
         self.waiting.clear();
         Ok(())

@@ -9,11 +9,11 @@ pub invariant_of-self-2 : goal.invariant_of-self-2
 invariant_of-self-2 g c =
     let i = c.self.inside in
     let steps : List Step = c.deref.result.now in
-    AreUnderway-with_chunk i.opening i.left i.chunks.items c.push.new.self.items c.in_ok-part.part steps
+    AreUnderway-with_chunk i.opening i.left i.chunks.items c.push.new.self.items c.in_ok-chunk.chunk steps
     c.self.invariant
-    c.in_ok-push.ensures.items c.in_ok-part.ensures
+    c.in_ok-push.ensures.items c.in_ok-chunk.ensures
     c.left-left.result.now
-    (c.left-left.ensures ∙ ap (λ (t : Trace). levels_after t.opening t.steps) c.in_ok-part.ensures)
+    (c.left-left.ensures ∙ ap (λ (t : Trace). levels_after t.opening t.steps) c.in_ok-chunk.ensures)
 
 pub returns : goal.returns
 returns g c =
@@ -22,7 +22,7 @@ returns g c =
     ap (λ (ss : List Step). record { opening = i.opening; steps = ss })
     (ap (λ (ws : List Step). steps_in c.push.new.self.items ++ ws) c.clear.ensures.items
     ∙ append-nil (steps_in c.push.new.self.items)
-    ∙ steps_in-with_chunk i.opening i.left i.chunks.items c.push.new.self.items c.in_ok-part.part steps c.self.invariant
-    c.in_ok-push.ensures.items c.in_ok-part.ensures
+    ∙ steps_in-with_chunk i.opening i.left i.chunks.items c.push.new.self.items c.in_ok-chunk.chunk steps c.self.invariant
+    c.in_ok-push.ensures.items c.in_ok-chunk.ensures
     ∙ ap (λ (ws : List Step). steps_in i.chunks.items ++ ws) c.deref.ensures.value)
     ∙ c.self.view_is

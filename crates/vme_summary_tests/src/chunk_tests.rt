@@ -1,4 +1,4 @@
-//! Recordings whose parts are judged by themselves, and passed in order to a judge.
+//! Recordings whose blocks are judged by themselves, each as a chunk, and passed in order to a judge.
 
 ghost use Rattle.std.specs.Prelude.{◌≡◌};
 
@@ -37,7 +37,8 @@ fn left_by(block: &Block) -> Lines {
     left
 }
 
-/// Judges a block by itself, and passes it to `stream_judge`, whose steps leave the lines at the block's opening.
+/// Judges a block by itself, and passes it as a chunk to `stream_judge`. `None` if the steps that it took leave other
+/// lines than the block opens with, if the chunk leaves other lines than the block, or if memory runs out.
 fn pass_block<J: ChunkJudge + Send>(
     alloc: Global,
     stream_judge: &mut StreamJudge<J>,
@@ -46,20 +47,20 @@ fn pass_block<J: ChunkJudge + Send>(
     let Ok(judged) = JudgedChunk::<J>::of(alloc, &block.opening, block.steps.as_slice()) else {
         return None;
     };
-    let part = sent(judged);
+    let chunk = sent(judged);
     let Ok(follows) = stream_judge.leaves(alloc, &block.opening) else {
         return None;
     };
     if !follows {
         return None;
     }
-    if *part.left() != left_by(block) {
+    if *chunk.left() != left_by(block) {
         return None;
     }
-    stream_judge.pass(alloc, part).ok()
+    stream_judge.pass(alloc, chunk).ok()
 }
 
-/// Passes a block to `stream_judge`, or its steps one after the other.
+/// Passes a block to `stream_judge` as a chunk, or gives it the steps one after the other, as `by_step` says.
 fn take_block<J: ChunkJudge + Send>(
     alloc: Global,
     stream_judge: &mut StreamJudge<J>,
@@ -80,7 +81,7 @@ fn take_block<J: ChunkJudge + Send>(
     Some(())
 }
 
-/// A judge of the steps of all blocks.
+/// A judge that took the steps of all blocks. It is made with other lines, and then opened with these.
 fn taken_in_blocks<J: ChunkJudge + Send + Drop>(
     alloc: Global,
     opening: &Lines,
@@ -95,7 +96,7 @@ fn taken_in_blocks<J: ChunkJudge + Send + Drop>(
     Some(stream_judge)
 }
 
-/// The verdict on the steps of the blocks.
+/// The verdict on the steps of the blocks, within the limit of 4,096 blocks of three steps.
 fn verdict_taken(
     alloc: Global,
     opening: &Lines,
@@ -106,7 +107,7 @@ fn verdict_taken(
     judge.verdict(alloc, 3).ok()
 }
 
-/// The listing of the steps of the blocks.
+/// The listing of the steps of the blocks, within the limit of 4,096 blocks of three steps.
 fn listing_taken(
     alloc: Global,
     opening: &Lines,
@@ -158,7 +159,7 @@ fn is_taken_by_each_size(alloc: Global, capture: &Capture, verdict: &Verdict, ro
 }
 
 /// Whether a worked recording has its verdict and its listing, cut into blocks of each size from 1 to 14.
-fn has_parts(alloc: Global, recording: &Worked) -> bool {
+fn passes_in_chunks(alloc: Global, recording: &Worked) -> bool {
     let (start, text, expected, rows) = recording;
     let Some(verdict) = verdict_of(*expected) else {
         return false;
@@ -170,13 +171,13 @@ fn has_parts(alloc: Global, recording: &Worked) -> bool {
 }
 
 #[test]
-fn parts_of_a_read(rt: HostRuntime) {
-    assert!(rt; has_parts(rt.alloc(), &CYCLES[0]));
+fn chunks_of_a_read(rt: HostRuntime) {
+    assert!(rt; passes_in_chunks(rt.alloc(), &CYCLES[0]));
 }
 
 #[test]
-fn parts_of_a_read_with_resets(rt: HostRuntime) {
-    assert!(rt; has_parts(rt.alloc(), &RESETS[0]));
-    assert!(rt; has_parts(rt.alloc(), &RESETS[1]));
-    assert!(rt; has_parts(rt.alloc(), &RESETS[2]));
+fn chunks_of_a_read_with_resets(rt: HostRuntime) {
+    assert!(rt; passes_in_chunks(rt.alloc(), &RESETS[0]));
+    assert!(rt; passes_in_chunks(rt.alloc(), &RESETS[1]));
+    assert!(rt; passes_in_chunks(rt.alloc(), &RESETS[2]));
 }
