@@ -16,7 +16,7 @@ use Rattle.vme_bind.specs.Binding.{BoundLines}
 use Rattle.vme_bind.specs.BuilderState.{builder_change, builder_instant}
 use Rattle.vme_bind.specs.TextCapture.{BindingFails, DumpFails, CaptureFailsBy, recording_of_text}
 use Rattle.vme_bind.specs.TextPieces.{TextReached, outcome, outcome_ahead}
-use Rattle.vme_bind.specs.Wants.{is_want}
+use Rattle.vme_bind.specs.Wants.{is_memory_fault}
 
 module _ (t : TextReached) where
   -- the result for the tokens `ts`
@@ -65,33 +65,33 @@ outcome_ahead-piece t t2 piece line line2 is ends leads rest =
     ∙ outcome_ahead-line t2 (line_behind line piece) line2 rest is
 
 -- a fault that isn't want of memory is the result
-pub CaptureFailsBy-equal : (fault : CaptureFault) (answer : Result Trace CaptureFault) → is_want fault ≡ false
+pub CaptureFailsBy-equal : (fault : CaptureFault) (answer : Result Trace CaptureFault) → is_memory_fault fault ≡ false
     → CaptureFailsBy fault answer → answer ≡ Err fault
 CaptureFailsBy-equal (Dump fault) answer not_want fails = by_kind fault.line fault.kind not_want fails
   where
-    by_kind : (line : ℕ) (kind : FaultKind) → is_want (Dump (record { line = line; kind = kind })) ≡ false
+    by_kind : (line : ℕ) (kind : FaultKind) → is_memory_fault (Dump (record { line = line; kind = kind })) ≡ false
         → DumpFails line kind answer → answer ≡ Err (Dump (record { line = line; kind = kind }))
     by_kind line Memory not_want fails = absurd (cc not_want)
     by_kind line kind not_want fails = fails
 CaptureFailsBy-equal (Binding fault) answer not_want fails = by_kind fault.line fault.kind not_want fails
   where
-    by_kind : (line : ℕ) (kind : BindFaultKind) → is_want (Binding (record { line = line; kind = kind })) ≡ false
+    by_kind : (line : ℕ) (kind : BindFaultKind) → is_memory_fault (Binding (record { line = line; kind = kind })) ≡ false
         → BindingFails line kind answer → answer ≡ Err (Binding (record { line = line; kind = kind }))
     by_kind line NoMemory not_want fails = absurd (cc not_want)
     by_kind line kind not_want fails = fails
 
 -- a fault that isn't want of memory may be returned where it is the result
-pub CaptureFailsBy-not_memory : (fault : CaptureFault) (answer : Result Trace CaptureFault) → is_want fault ≡ false
+pub CaptureFailsBy-not_memory : (fault : CaptureFault) (answer : Result Trace CaptureFault) → is_memory_fault fault ≡ false
     → answer ≡ Err fault → CaptureFailsBy fault answer
 CaptureFailsBy-not_memory (Dump fault) answer not_want is = by_kind fault.line fault.kind not_want is
   where
-    by_kind : (line : ℕ) (kind : FaultKind) → is_want (Dump (record { line = line; kind = kind })) ≡ false → answer
+    by_kind : (line : ℕ) (kind : FaultKind) → is_memory_fault (Dump (record { line = line; kind = kind })) ≡ false → answer
         ≡ Err (Dump (record { line = line; kind = kind })) → DumpFails line kind answer
     by_kind line Memory not_want is = absurd (cc not_want)
     by_kind line kind not_want is = is
 CaptureFailsBy-not_memory (Binding fault) answer not_want is = by_kind fault.line fault.kind not_want is
   where
-    by_kind : (line : ℕ) (kind : BindFaultKind) → is_want (Binding (record { line = line; kind = kind })) ≡ false
+    by_kind : (line : ℕ) (kind : BindFaultKind) → is_memory_fault (Binding (record { line = line; kind = kind })) ≡ false
         → answer
         ≡ Err (Binding (record { line = line; kind = kind })) → BindingFails line kind answer
     by_kind line NoMemory not_want is = absurd (cc not_want)
@@ -99,7 +99,7 @@ CaptureFailsBy-not_memory (Binding fault) answer not_want is = by_kind fault.lin
 
 -- a fault of a piece of the body is the result for the text
 pub outcome_ahead-piece_fails : (t : TextReached) (piece : List ℕ) (line : ℕ) (fault : CaptureFault)
-    → EndsBetweenTokens piece → is_want fault ≡ false
+    → EndsBetweenTokens piece → is_memory_fault fault ≡ false
     → ((more : List Token) → CaptureFailsBy fault (outcome_ahead t (tokens_from line piece) more))
     → (rest : List ℕ) → outcome_ahead t (tokens_from line (piece ++ rest)) [] ≡ Err fault
 outcome_ahead-piece_fails t piece line fault ends not_want fails rest =
@@ -109,7 +109,7 @@ outcome_ahead-piece_fails t piece line fault ends not_want fails rest =
 
 -- a fault of the prefix `front` is the result for the text
 pub recording_of_text-front_fails : (b : BoundLines) (front : List ℕ) (fault : CaptureFault) → EndsBetweenTokens front
-    → is_want fault ≡ false
+    → is_memory_fault fault ≡ false
     → ((whole : List ℕ) (more : List Token) → tokens whole ≡ tokens front ++ more → CaptureFailsBy fault
     (recording_of_text b whole))
     → (rest : List ℕ) → recording_of_text b (front ++ rest) ≡ Err fault

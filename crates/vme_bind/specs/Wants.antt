@@ -1,4 +1,4 @@
--- Want of memory.
+-- Which faults are want of memory.
 use Rattle.std.specs.Prelude.{Bool, true, false}
 use Rattle.vcd_read.specs.Meaning.{is_want_of_memory}
 use Rattle.vme_bind.specs.declared.fault.BindFaultKind.{BindFaultKind}
@@ -6,11 +6,12 @@ use Rattle.vme_bind.specs.declared.fault.BindFaultKind.TheVariants.{Memory}
 use Rattle.vme_bind.specs.declared.fault.CaptureFault.{CaptureFault}
 use Rattle.vme_bind.specs.declared.fault.CaptureFault.TheVariants.{Dump, Binding}
 
-abbrev is_want_of_binding : BindFaultKind → Bool
-is_want_of_binding Memory = true
-is_want_of_binding kind = false
+-- whether a fault of a binding is want of memory
+abbrev is_binding_memory_fault : BindFaultKind → Bool
+is_binding_memory_fault Memory = true
+is_binding_memory_fault kind = false
 
--- whether a fault is want of memory
-abbrev pub is_want : CaptureFault → Bool
-is_want (Dump fault) = is_want_of_memory fault.kind
-is_want (Binding fault) = is_want_of_binding fault.kind
+-- whether a fault of a dump, or of the binding for it, is want of memory
+abbrev pub is_memory_fault : CaptureFault → Bool
+is_memory_fault (Dump fault) = is_want_of_memory fault.kind
+is_memory_fault (Binding fault) = is_binding_memory_fault fault.kind

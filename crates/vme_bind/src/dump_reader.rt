@@ -4,12 +4,12 @@ ghost use Rattle.std.specs.Prelude.{◌≡◌, ◌≤◌, ℕ, List, length, tak
 ghost use Rattle.vcd_read.specs.ByteConsumers.{ContinuesAs};
 ghost use Rattle.vme_bind.specs.DumpReading.{dump_ahead};
 ghost use Rattle.vme_bind.specs.TextCapture.{GivesBy, recording_of_text};
-ghost use Rattle.vme_bind.specs.Wants.{is_want};
+ghost use Rattle.vme_bind.specs.Wants.{is_memory_fault};
 ghost use Rattle.vme_bind.specs.declared.fault.CaptureFault.TheVariants.{Dump};
 
 use crate::binding::Binding;
 use crate::fault::CaptureFault;
-use crate::input_fault::{InputFault, is_want};
+use crate::input_fault::{InputFault, is_memory_fault};
 use crate::text_reader::TextReader;
 use std::alloc::{AllocError, Global};
 use vcd_read::{ByteConsumer, VcdFault, whole_tokens};
@@ -39,10 +39,10 @@ impl<'b, F: StepVisitor> DumpReader<'b, F> {
     /// The reader of a dump that has `fault`. It takes all bytes that follow, and looks at none. Want of memory is no
     /// fault of a dump: it is the only error.
     pub fn failed(fault: CaptureFault) -> Result<DumpReader<'b, F>, AllocError>
-        ensures told { IfOk result (λ reader. is_want fault ≡ false) }
+        ensures not_want { IfOk result (λ reader. is_memory_fault fault ≡ false) }
         ensures ahead { IfOk result (λ reader. (rest : List ℕ) → dump_ahead reader rest ≡ Err fault) }
     {
-        if is_want(&fault) {
+        if is_memory_fault(&fault) {
             return Err(AllocError);
         }
         Ok(DumpReader::Failed(InputFault { fault }))
@@ -61,7 +61,8 @@ impl<'b, F: StepVisitor> DumpReader<'b, F> {
         }
     }
 
-    /// Takes a prefix of `bytes`, and returns its length. The only error is want of memory.
+    /// Takes a prefix of `bytes`, and returns its length: the tokens that end in them; nothing, while the definitions
+    /// don't end there; all, once there is a fault. The only error is want of memory.
     pub fn take(self, alloc: Global, bytes: &[u8]) -> Result<(DumpReader<'b, F>, usize), AllocError>
         ensures within { IfOk result (λ made. made.1 ≤ length bytes.now) }
         ensures taken { IfOk result (λ made. ContinuesAs (dump_ahead self.entry) (dump_ahead made.0)

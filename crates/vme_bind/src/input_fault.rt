@@ -1,7 +1,7 @@
 //! A fault of a dump, or of the binding for it, that isn't want of memory.
 
 ghost use Rattle.std.specs.Prelude.{◌≡◌, false};
-ghost use Rattle.vme_bind.specs.Wants.{is_want};
+ghost use Rattle.vme_bind.specs.Wants.{is_memory_fault};
 
 use crate::fault::{BindFaultKind, CaptureFault};
 use vcd_read::FaultKind;
@@ -11,12 +11,12 @@ use vcd_read::FaultKind;
 pub struct InputFault {
     /// The fault.
     pub fault: CaptureFault,
-    ghost not_want: { is_want fault ≡ false },
+    ghost not_want: { is_memory_fault fault ≡ false },
 }
 
 /// Whether `fault` is want of memory.
-pub(crate) fn is_want(fault: &CaptureFault) -> bool
-    ensures { result ≡ is_want fault.now }
+pub(crate) fn is_memory_fault(fault: &CaptureFault) -> bool
+    ensures { result ≡ is_memory_fault fault.now }
 {
     match fault {
         CaptureFault::Dump(fault) => matches!(fault.kind, FaultKind::Memory),

@@ -21,5 +21,5 @@ returns-in_ok-failed-in-Err-clause-taken g c =
     rw c.in-Body.is
     (λ rest.
     outcome_ahead-piece_fails (text_reached text) piece (text_reached text).body.line c.in-Err.fault
-    c.whole_tokens-count.ensures.apart c.in_ok-failed-in-Err.ensures.told c.in-Err.ensures.rest rest
+    c.whole_tokens-count.ensures.apart c.in_ok-failed-in-Err.ensures.not_want c.in-Err.ensures.rest rest
     ∙ sym (c.in_ok-failed-in-Err.ensures.ahead rest))

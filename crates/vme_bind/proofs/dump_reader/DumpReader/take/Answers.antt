@@ -25,7 +25,7 @@ returns-in_ok-failed-in-Err-clause-taken g c =
     let front = take c.whole_tokens-count.result c.args.bytes.now in
     rw c.in-Definitions.is
     (λ rest. recording_of_text-front_fails b front c.in-Err.fault c.whole_tokens-count.ensures.apart
-    c.in_ok-failed-in-Err.ensures.told c.in-Err.ensures.begins rest ∙ sym (c.in_ok-failed-in-Err.ensures.ahead rest))
+    c.in_ok-failed-in-Err.ensures.not_want c.in-Err.ensures.begins rest ∙ sym (c.in_ok-failed-in-Err.ensures.ahead rest))
 
 pub returns-in-Ok-clause-taken : goal.returns-in-Ok-clause-taken
 returns-in-Ok-clause-taken g c =
@@ -45,7 +45,7 @@ returns-in_ok-failed-in-Err-read-clause-taken g c =
     rw c.in-Body.is
     (λ rest.
     outcome_ahead-piece_fails (text_reached text) piece (text_reached text).body.line c.in-Err-read.fault
-    c.whole_tokens-count.ensures.apart c.in_ok-failed-in-Err-read.ensures.told c.in-Err-read.ensures.rest rest
+    c.whole_tokens-count.ensures.apart c.in_ok-failed-in-Err-read.ensures.not_want c.in-Err-read.ensures.rest rest
     ∙ sym (c.in_ok-failed-in-Err-read.ensures.ahead rest))
 
 pub returns-in-Failed-clause-taken : goal.returns-in-Failed-clause-taken
