@@ -37,7 +37,7 @@ pub struct AuditOptions<'a> {
 /// A dump, with its name.
 #[derive(Drop)]
 pub struct NamedDump<'a, D> {
-    /// Its name in the lines about it.
+    /// Its name in the lines about it, and in the JUnit file, which is well formed only if the name is UTF-8.
     pub name: &'a [u8],
     /// Its bytes, which are read from the start.
     pub dump: D,
@@ -216,15 +216,15 @@ fn write_refusal<E: Sink>(alloc: Global, name: &[u8], refusal: &Refusal, err: &m
     }
 }
 
-/// The line with the reason why a dump has no outcome.
+/// The line that says why a dump has no outcome.
 fn refusal_of(alloc: Global, name: &[u8], refusal: &Refusal) -> Result<Text, AllocError>
     ensures { IfOk result (λ text. text ≡ refusal_line_of name.now refusal.now) }
 {
     let head = dump_head(alloc, name)?;
-    let behind = refusal_text(alloc, refusal)?;
+    let reason = refusal_text(alloc, refusal)?;
     let mut text = Text::new(alloc);
     text.push(b"vmecheck: ")?;
     text.push(head.as_bytes())?;
-    text.push(behind.as_bytes())?;
+    text.push(reason.as_bytes())?;
     Ok(text)
 }

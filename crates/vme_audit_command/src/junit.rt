@@ -10,7 +10,7 @@ use vme_text::Text;
 /// The greatest number of breaks of a kind that a test case names.
 const MOST_NAMED: u32 = 100;
 
-/// Appends a text as the value of an attribute, escaped as XML requires. `?` replaces what XML can't have.
+/// Appends a text in UTF-8 as the value of an attribute, escaped as XML requires. `?` replaces what XML can't have.
 fn push_quoted(text: &mut Text, value: &[u8]) -> Result<(), AllocError> {
     text.push(b"\"")?;
     let mut at = 0;
@@ -58,12 +58,15 @@ fn push_message(text: &mut Text, element: &[u8], line: &[u8]) -> Result<(), Allo
 /// The results of a dump.
 #[derive(Debug, Drop)]
 pub(crate) struct TestCase {
+    /// Whether a JUnit file is wanted.
     is_wanted: bool,
     /// The breaks that aren't allowed, or else why the recording isn't covered, as elements.
     failures: Text,
+    /// How many breaks these name, at most `MOST_NAMED`.
     failed: u32,
     /// The allowed breaks, and the counts, in lines.
     lines: Text,
+    /// How many breaks these name, at most `MOST_NAMED`.
     allowed: u32,
 }
 
@@ -133,7 +136,9 @@ impl TestCase {
 /// The test cases of the dumps that were audited.
 #[derive(Debug, Drop)]
 pub struct TestSuite {
+    /// Whether a JUnit file is wanted.
     is_wanted: bool,
+    /// The test cases, as elements.
     cases: Text,
 }
 

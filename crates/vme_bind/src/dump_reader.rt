@@ -61,8 +61,8 @@ impl<'b, F: StepVisitor> DumpReader<'b, F> {
         }
     }
 
-    /// Takes a prefix of `bytes`, and returns its length: the tokens that end in them; nothing, while the definitions
-    /// don't end there; all, once there is a fault. The only error is want of memory.
+    /// Takes a prefix of `bytes`, up to their last white space, and returns its length. It takes nothing while the
+    /// definitions don't end in it, and all bytes after a fault. The only error is want of memory.
     pub fn take(self, alloc: Global, bytes: &[u8]) -> Result<(DumpReader<'b, F>, usize), AllocError>
         ensures within { IfOk result (λ made. made.1 ≤ length bytes.now) }
         ensures taken { IfOk result (λ made. ContinuesAs (dump_ahead self.entry) (dump_ahead made.0)
