@@ -1,4 +1,5 @@
-//! The given rows, taken one by one as the expected ones start, and the least row that differs.
+//! The given rows, taken one by one as the expected ones start, and the least row that differs. The given rows are those
+//! of the listing that is checked, and the expected ones those of the recording's own listing.
 
 ghost use Rattle.std.specs.Prelude.{◌≡◌, ◌<◌, ◌^◌, true, false, List, length, Some, None};
 ghost use Rattle.vme_cert.specs.Vocabulary.{Row};
@@ -8,8 +9,8 @@ use crate::compare::Answer;
 use crate::source::RowSource;
 use vme_listing::{Row, Version};
 
-/// An expected row that has started: its place, counted from 0, the given row at that place, and the expected row but
-/// for its last edge.
+/// An expected row that has started: its place, counted from 0, the given row at that place, if there is one, and the
+/// expected row but for its last edge. A transfer's is that of a pending one until it is answered.
 #[derive(Clone, Copy)]
 pub(crate) struct OpenRow {
     pub(crate) place: usize,
@@ -22,9 +23,9 @@ pub(crate) struct OpenRow {
 #[derive(Drop)]
 pub(crate) struct Comparison<S: RowSource> {
     pub(crate) source: S,
-    /// The version in which the rows are given.
+    /// The version of the listing: it decides whether the row of a write has data.
     pub(crate) version: Version,
-    /// How many expected rows have started.
+    /// How many expected rows have started, and so how many given ones were taken, if there were as many.
     pub(crate) taken: usize,
     /// The least row that was compared and differs, counted from 1.
     pub(crate) wrong: Option<usize>,
@@ -99,7 +100,7 @@ impl<S: RowSource> Comparison<S> {
         };
     }
 
-    /// The answer, where no expected row follows; and the source of the rows.
+    /// The answer, where no expected row follows and none is open; and the source of the rows.
     pub(crate) fn finish(self) -> (Answer, S)
         requires { self.taken < 2 ^ 63 }
         ensures { (whole : S.Whole) (given expected_rows : List Row)

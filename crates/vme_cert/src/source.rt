@@ -10,7 +10,7 @@ pub trait RowSource: Drop {
     /// What the rows are read from, as a whole.
     ghost Whole: { Type 0 };
 
-    /// Of the whole these rows were given so far, from the first on.
+    /// `gave whole source rows`: of the whole, the source in this state has given these rows so far, from the first on.
     ghost gave: { Self.Whole → Self → List Row → Type 0 };
 
     /// No more rows are given.
