@@ -1,4 +1,6 @@
--- Relations between a bench's view before and after a call.
+-- Relations between a bench's view before and after a call. A bench is a worker's handle to the board of blocks, and its
+-- view is what it has done and seen (`View` of vme_core, which says what each field is). A draw is a number that one
+-- bench alone wins. It is found won once the bench has seen that it, or another bench, has won it.
 use Rattle.std.specs.Prelude.{◌≡◌, ◌⊎◌, ℕ, ◌<◌, max}
 use Rattle.vme_trace.specs.declared.block.Block.{Block}
 use Rattle.vme_core.specs.declared.view.View.{View}
@@ -20,7 +22,8 @@ pub record SameWork (old new : View) : Type 0 where
   pub found : new.found ≡ old.found
   pub share : new.share ≡ old.share
 
--- nothing but the draws won and the draws found won changes
+-- nothing changes of the block numbers: which the bench filed and took, and which it has seen claimed, filed and taken;
+-- nor does the share. Only the draws won and the draws found won may change
 pub record SameNumbers (old new : View) : Type 0 where
   pub list : new.list ≡ old.list
   pub takes : new.takes ≡ old.takes
@@ -46,6 +49,6 @@ HasNothingToTake old new n = (rank (seen old n) < rank Filed) ⊎ (seen new n �
 abbrev pub IsNewDraw : View → ℕ → Type 0
 IsNewDraw v d = (occurrences d v.draws ≡ 0) × (occurrences d v.found ≡ 0)
 
--- a number that is in the list and in the takes has the same block in both
+-- a number that the bench both filed and took has the same block in both
 abbrev pub SameBlocks : View → Type 0
 SameBlocks v = (n : ℕ) (b c : Block) → HasPair v.list n b → HasPair v.takes n c → b ≡ c

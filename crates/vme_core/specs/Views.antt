@@ -1,4 +1,6 @@
--- How each step changes the view of the bench that takes it.
+-- How each step changes the view of the bench that takes it. A bench is a worker's handle to the board of blocks, and
+-- its view is what it has done and seen (`View`). A draw is a number that one bench alone wins. A share is a list of
+-- exponents e, each for a part 2^-e of the board (`specs/Shares`).
 use Rattle.std.specs.Prelude.{ℕ, List, [], ◌∷◌, ◌++◌}
 use Rattle.vme_trace.specs.declared.block.Block.{Block}
 use Rattle.vme_core.specs.declared.view.View.{View}
@@ -18,7 +20,7 @@ empty_view = record {
   share = [];
 }
 
--- the view of the first bench: it has the whole share
+-- the view of the first bench: it has the whole share, one part of 2^0
 abbrev pub first_view : View
 first_view = record empty_view { share = 0 ∷ [] }
 
