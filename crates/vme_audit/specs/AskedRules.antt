@@ -1,5 +1,7 @@
 -- Which rules a recording asks: those whose event happens in it. A rule that is never asked can't be broken, so that a
--- recording says nothing of it.
+-- recording says nothing of it. A part of a recording begins at its opening or at a break, and is looked at up to its own
+-- break (`Parts`). A stretch is judged from an idle instant to a reset or to an unknown control line (`Judged` of
+-- vme_trace).
 use Rattle.std.specs.Prelude.{ℕ, Bool, false, not, ◌+◌, ◌&&◌, ◌||◌, List, filter, min, nat_lt, Option, None, Some}
 use Rattle.std.specs.List.{list_any}
 use Rattle.vme_trace.specs.Instants.{any}
@@ -67,7 +69,7 @@ module _ (t : Trace) (stretch : Stretch) where
       is_answer t stretch j
       && in_cycle t stretch (λ i. chosen (class_at t i) && has_earlier_answer (answers_of t stretch i j)) j
 
-  -- the event happens at instant j of the stretch, after its start
+  -- the event happens at instant j of the stretch, after its start. Judging starts only at the start
   abbrev pub event_happens : Event → ℕ → Bool
   event_happens event.stretch j = false
   event_happens event.cycle j = cycle_starts t stretch j
@@ -90,8 +92,8 @@ module _ (t : Trace) (stretch : Stretch) where
   event_happens event.tenure j = tenure_starts t stretch j
   event_happens event.acknowledge_fall j = acknowledge_falls t j
 
-  -- the event of a rule happens at an instant of the stretch: where it doesn't, the rule can't be broken. That of U1 is
-  -- the stretch itself
+  -- the event of rule r happens at instant j of the stretch, after its start. That of U1, by which the stretch would
+  -- end, is its start, and is asked for by `asks_in`
   unfoldable pub happens : Rule → ℕ → Bool
   happens r j = event_happens (event_of r) j
 
@@ -100,7 +102,8 @@ abbrev pub asking_end : Trace → Option Break → ℕ
 asking_end t None = last_instant t + 1
 asking_end t (Some b) = b.instant + 1
 
--- a recording whose break is `found` asks rule r in the stretch
+-- a recording whose break is `found` asks rule r in the stretch: r is the rule that ends a stretch, or its event happens
+-- before the end of the stretch and up to the break
 unfoldable pub asks_in : Trace → Option Break → Rule → Stretch → Bool
 asks_in t found r stretch = ends_stretch r || any (happens t stretch r) (stretch.start + 1)
     (min stretch.end (asking_end t found))

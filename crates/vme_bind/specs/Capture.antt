@@ -1,4 +1,6 @@
--- The recording that a binding makes of a dump.
+-- The recording that a binding makes of a dump. A number `net` is that of a net of the dump, which the variables with
+-- one code share, and not a net of a daisy chain (`is_net`). An instant n is the n-th of the dump's times, from 0; it is
+-- an instant of the recording only if a line changes there (`is_step`).
 use Rattle.std.specs.Prelude.{ℕ, ◌+◌, Bool, not, ◌==◌, nat_lt, if◌then◌else◌, List, [], ◌∷◌, length, map, get_or}
 use Rattle.std.specs.Prelude.{slice_get, Option, Some, None, is_some, option_and_then, Result, Ok, Err}
 use Rattle.std.specs.List.{range_with_len}
@@ -26,7 +28,7 @@ use Rattle.vme_bind.specs.declared.bound_groups.LineSource.TheVariants.{Always, 
 use Rattle.vme_bind.specs.Binding.{BoundLines}
 use Rattle.vme_bind.specs.BoundGroups.{bound_groups_in, line_source}
 
--- the level of the line `l` for a bit: z is high on a bused line, and unknown on a net of a daisy chain
+-- the level of the line `l` for a bit: z is high on a bused line, and unknown on a line of a daisy chain
 abbrev pub level_of : ℕ → Bit → Level
 level_of l Zero = Low
 level_of l One = High
@@ -37,12 +39,12 @@ level_of l Z = if is_net l then Unknown else High
 abbrev pub level_in : ℕ → ℕ → List Bit → Level
 level_in l place bits = level_of l (get_or bits place X)
 
--- the bits of the last of these values that is one of `net`
+-- the bits of the last of these values that is of the net `net`, if there is one
 abbrev pub last_bits : ℕ → List Value → Option (List Bit)
 last_bits net [] = None
 last_bits net (v ∷ values) = option_or (last_bits net values) (if v.net == net then Some v.bits else None)
 
--- the values of an instant, if there is one
+-- the values of an instant; none if there is no instant
 abbrev pub values_of : Option Instant → List Value
 values_of None = []
 values_of (Some instant) = instant.values
@@ -52,6 +54,8 @@ abbrev pub time_of : Option Instant → ℕ
 time_of None = 0
 time_of (Some instant) = instant.time
 
+-- of a backplane of `slots` slots, whose lines are bound in groups, to a constant or to bits of the dump with these
+-- instants
 module _ (slots : ℕ) (bound_groups : List BoundGroup) (instants : List Instant) where
   -- the bits that `net` gets at instant i, if it changes there; the first instant is 0
   abbrev pub bits_at : ℕ → ℕ → Option (List Bit)
@@ -109,7 +113,7 @@ recording_of b dump = bound_groups_in dump.variables b.assignments
 abbrev pub limited : Trace → Result Trace BindFault
 limited t = if nat_lt capture_limit (length t.steps) then Err (record { line = 0; kind = TooManySteps }) else Ok t
 
--- the recording that a binding makes of a dump, or else the first fault
+-- the recording that a binding makes of a dump, if it has at most `capture_limit` steps, or else the first fault
 unfoldable pub capture_of : BoundLines → Contents → Result Trace BindFault
 capture_of b dump = bound_groups_in dump.variables b.assignments
     >>= λ bound_groups. limited (recording b.slots bound_groups dump.instants (length dump.instants))
