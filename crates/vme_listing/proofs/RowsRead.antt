@@ -1,4 +1,5 @@
--- Each row that its form allows is read from its own text, piece by piece.
+-- Each row that its form allows is read from its own text, piece by piece. A piece is a number, a
+-- name or the data of a row: functions `.._at` read it, and `past_..` give what is left of the line after it (`Lines`).
 use Rattle.std.proofs.Common.{◌≡◌, ◌==◌, ℕ, ◌^◌, ◌<◌, ◌≤◌, true, false, ◌&&◌, List, []}
 use Rattle.std.proofs.Common.{◌∷◌}
 use Rattle.std.proofs.Common.{◌++◌, drop, length, take, refl, sym, ap, ◌∙◌, arith, append_assoc, length-append}
@@ -64,7 +65,7 @@ hexadecimal_in-is k n more in_digits below =
       bytes_eq-refl (hexadecimal k n),
     ) refl
 
--- the data of a write, if its form allows it, is read from its text
+-- the data of a write (`Lanes`), if its form allows it, is read from its text
 pub lanes_in-is : (a : Lanes) (more : List ℕ) → is_allowed_data a ≡ true → lanes_in (lanes_text a ++ more) ≡ Some a
 unfolding lanes_in
 lanes_in-is a more h =
@@ -232,20 +233,20 @@ module _ {start : ℕ} {end : Option ℕ} (l : List ℕ) where
   row_in-interrupt t u n m e = rw (n.0, n.1, m.0, m.1, e.0, e.1) refl
 
   -- a text with the pieces of the row of a cycle of the class F is read as that row
-  row_in-free : {code : ℕ} (t u : List ℕ) → Piece number_at past_number l start (codes " F " ++ t)
-      → Piece modifier_at past_modifier t code (codes " end " ++ u) → Piece end_instant_at past_end_instant u end []
-      → row_in (codes "cycle " ++ l) ≡ Some (FreeCycle start code end)
+  row_in-free : {modifier : ℕ} (t u : List ℕ) → Piece number_at past_number l start (codes " F " ++ t)
+      → Piece modifier_at past_modifier t modifier (codes " end " ++ u) → Piece end_instant_at past_end_instant u end []
+      → row_in (codes "cycle " ++ l) ≡ Some (FreeCycle start modifier end)
   unfolding row_in cycle_at past_cycle
   row_in-free t u n m e = rw (n.0, n.1, m.0, m.1, e.0, e.1) refl
 
   -- a text with the pieces of the row of a cycle with an address is read as that row
-  row_in-addressed : {code place : ℕ} (c : Class) (t u v : List ℕ) → has_class code c ≡ true
+  row_in-addressed : {modifier address : ℕ} (c : Class) (t u v : List ℕ) → has_class modifier c ≡ true
       → Piece number_at past_number l start (codes " " ++ (class_text c ++ (codes " " ++ t)))
-      → Piece modifier_at past_modifier t code (codes " " ++ u)
-      → Piece (λ left. hexadecimal_at left (address_digits code)) (λ left. past_hexadecimal left
-      (address_digits code)) u
-      place (codes " end " ++ v) → Piece end_instant_at past_end_instant v end []
-      → row_in (codes "cycle " ++ l) ≡ Some (AddressedCycle start c code place end)
+      → Piece modifier_at past_modifier t modifier (codes " " ++ u)
+      → Piece (λ left. hexadecimal_at left (address_digits modifier)) (λ left. past_hexadecimal left
+      (address_digits modifier)) u
+      address (codes " end " ++ v) → Piece end_instant_at past_end_instant v end []
+      → row_in (codes "cycle " ++ l) ≡ Some (AddressedCycle start c modifier address end)
   unfolding row_in cycle_at past_cycle
   row_in-addressed class.S t u v h n m a e = rw (n.0, n.1, m.0, m.1, a.0, a.1, e.0, e.1) refl
   row_in-addressed class.K t u v h n m a e = rw (n.0, n.1, m.0, m.1, a.0, a.1, e.0, e.1) refl
@@ -302,34 +303,34 @@ IsRead-interrupt start level end h less e =
     (Piece-small level (codes " end " ++ u) refl (omega arith)) (Piece-last_end_instant end e)
 
 -- the row of a cycle of the class F is read
-IsRead-free : (start code : ℕ) (end : Option ℕ) → is_number start ≡ true → code < 64 → is_end_instant end ≡ true
-    → IsRead (FreeCycle start code end)
+IsRead-free : (start modifier : ℕ) (end : Option ℕ) → is_number start ≡ true → modifier < 64 → is_end_instant end ≡ true
+    → IsRead (FreeCycle start modifier end)
 unfolding row_text
-IsRead-free start code end h less e =
+IsRead-free start modifier end h less e =
     let u = end_instant_text end in
-    let t = hexadecimal 2 code ++ (codes " end " ++ u) in
+    let t = hexadecimal 2 modifier ++ (codes " end " ++ u) in
     let l = decimal start ++ (codes " F " ++ t) in
     ap row_in (simp append_assoc)
     ∙ row_in-free l t u (Piece-number start (codes " F " ++ t) refl (is_number-below start h))
-    (Piece-modifier code (codes " end " ++ u) less)
+    (Piece-modifier modifier (codes " end " ++ u) less)
     (Piece-last_end_instant end e)
 
 -- the row of a cycle with an address is read
-IsRead-addressed : (start : ℕ) (c : Class) (code place : ℕ) (end : Option ℕ) → is_number start ≡ true
-    → has_class code c ≡ true → HasDigits code place → is_end_instant end ≡ true
-    → IsRead (AddressedCycle start c code place end)
+IsRead-addressed : (start : ℕ) (c : Class) (modifier address : ℕ) (end : Option ℕ) → is_number start ≡ true
+    → has_class modifier c ≡ true → HasDigits modifier address → is_end_instant end ≡ true
+    → IsRead (AddressedCycle start c modifier address end)
 unfolding row_text
-IsRead-addressed start c code place end h is a e =
+IsRead-addressed start c modifier address end h is a e =
     let v = end_instant_text end in
-    let u = hexadecimal (address_digits code) place ++ (codes " end " ++ v) in
-    let t = hexadecimal 2 code ++ (codes " " ++ u) in
+    let u = hexadecimal (address_digits modifier) address ++ (codes " end " ++ v) in
+    let t = hexadecimal 2 modifier ++ (codes " " ++ u) in
     let s = codes " " ++ (class_text c ++ (codes " " ++ t)) in
     let l = decimal start ++ s in
     ap row_in (simp append_assoc)
     ∙ row_in-addressed l c t u v is (Piece-number start s refl (is_number-below start h))
-    (Piece-modifier code (codes " "
+    (Piece-modifier modifier (codes " "
     ++ u) a.modifier_below)
-    (Piece-address (address_digits code) place (codes " end " ++ v) a.address_below a.by_32_bits)
+    (Piece-address (address_digits modifier) address (codes " end " ++ v) a.address_below a.by_32_bits)
     (Piece-last_end_instant end e)
 
 -- the row of a transfer without an answer is read
