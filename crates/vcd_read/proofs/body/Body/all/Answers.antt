@@ -1,3 +1,5 @@
+-- A fault of the item that is resumed, or of a later one, is the first fault of the body from the start of the piece
+-- on. Without one, reading on gives what reading from the start of the piece gives.
 use Rattle.std.proofs.Common.{◌∙◌}
 use Rattle.vcd_read.proofs.BodyLemmas.{Stops-same, BodyContinuesAs-error}
 use Rattle.vcd_read.proofs.body.Body.all.Goals as goal

@@ -1,3 +1,5 @@
+-- Whatever follows, reading on after the words that were read gives what reading before them gave: the words are of the
+-- comment that is open.
 use Rattle.std.proofs.Common.{◌++◌, ◌∙◌, List, refl, sym, ap, arith}
 use Rattle.vcd_read.specs.Tokens.{Token}
 use Rattle.vcd_read.specs.Reading.{line_of, left_at, token_at}
@@ -10,6 +12,7 @@ use Rattle.vcd_read.proofs.BodyLemmas.{body_from-comment_end, body_from-comment_
 use Rattle.vcd_read.proofs.BodyLemmas.{until_fault-same_state}
 use Rattle.vcd_read.proofs.body.Body.comment.Goals as goal
 
+-- the word is `$end`: the body goes on after the comment
 pub returns-then-is_end-clause-rest : goal.returns-then-is_end-clause-rest
 returns-then-is_end-clause-rest g c =
     let old = c.args.self.now in
@@ -31,6 +34,7 @@ returns-then-is_end-clause-rest g c =
     c.loop-word.self.dump_section _ (place_of c.loop-word.self.place) after (cc) (cc) (rw inv.timed refl)
     inv.dump_section (ap place_of (inv.place ∙ c.requires.between)) more
 
+-- the word is another one: the comment goes on
 pub loop-word-preserved : goal.loop-word-preserved
 loop-word-preserved g c =
     let text = c.args.self.now.reader.text in
@@ -51,6 +55,7 @@ loop-word-preserved g c =
           ∙ c.if-is_end.false);
     }
 
+-- no word is left: the comment goes on in the next piece
 pub returns-clause-rest : goal.returns-clause-rest
 returns-clause-rest g c =
     let old = c.args.self.now in

@@ -1,3 +1,4 @@
+-- The code of the real number or string is in the piece: the change is skipped, or its code isn't declared.
 use Rattle.std.proofs.Common.{◌++◌, List, refl, ap, subst}
 use Rattle.vcd_read.specs.Tokens.{Token}
 use Rattle.vcd_read.specs.Reading.{left_at, line_of, token_at}

@@ -1,3 +1,4 @@
+-- By the shape of the token: reading from the token on gives what its item gives, and then the rest of the piece.
 use Rattle.std.proofs.Common.{◌∙◌, ◌++◌, List, sym, ap}
 use Rattle.vcd_read.specs.Tokens.{Token}
 use Rattle.vcd_read.specs.Reading.{left_at, token_at}

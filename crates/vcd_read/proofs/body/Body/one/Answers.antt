@@ -1,3 +1,4 @@
+-- No token is left in the piece, or the item that the next token is or begins is read.
 use Rattle.std.proofs.Common.{◌++◌, ◌∙◌, List, sym, ap}
 use Rattle.vcd_read.specs.Tokens.{Token}
 use Rattle.vcd_read.specs.Bodies.{place_of, until_fault}

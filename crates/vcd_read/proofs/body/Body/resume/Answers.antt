@@ -1,3 +1,4 @@
+-- By the place at which the previous piece ends: between two items nothing is read, and within one its rest is.
 use Rattle.std.proofs.Common.{◌∙◌, sym, ap}
 use Rattle.vcd_read.specs.Body.{BodyPlace, code_of_vector}
 use Rattle.vcd_read.specs.Bodies.{place_of}

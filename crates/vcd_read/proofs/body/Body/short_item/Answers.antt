@@ -1,3 +1,4 @@
+-- No token is left in the piece, or the next one begins with `#`, as a time does, or is tried as a change.
 use Rattle.std.proofs.Common.{◌++◌, List, sym, ap}
 use Rattle.vcd_read.specs.Tokens.{Token}
 use Rattle.vcd_read.specs.Bodies.{until_fault}

@@ -1,3 +1,5 @@
+-- Each short item that is read is one of the body's; the first fault is the body's; and the body goes on from where the
+-- reader of the short items stands.
 use Rattle.std.proofs.Common.{◌≡◌, ◌++◌, ◌∙◌, List, ap, arith, refl, sym, ℕ}
 use Rattle.vcd_read.specs.Tokens.{Token}
 use Rattle.vcd_read.specs.Bodies.{until_fault}

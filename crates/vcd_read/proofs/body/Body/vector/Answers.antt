@@ -1,3 +1,4 @@
+-- The code of the vector is in the piece: its net changes, or the change has a fault.
 use Rattle.std.proofs.Common.{◌++◌, List, ap}
 use Rattle.vcd_read.specs.Tokens.{Token}
 use Rattle.vcd_read.specs.Reading.{left_at, line_of, token_at}
