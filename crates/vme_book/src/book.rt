@@ -57,7 +57,8 @@ pub struct Whole {
 }
 
 /// Judged blocks of one recording, inserted in any order. Contracts see a list: at each number below the total, the
-/// block that was inserted there, if there is one.
+/// block that was inserted there, if there is one. A block *joins* those before it if it opens with the lines that they
+/// leave and its steps come later than theirs.
 #[derive(Drop)]
 pub struct Book {
     places: BookSlots,
@@ -65,7 +66,8 @@ pub struct Book {
     progress: Option<RunningVerdict>,
     /// How many blocks these are.
     reached: usize,
-    /// The first ones of these blocks, joined to one span.
+    /// The first ones of these blocks, joined to one span. The others are joined as a further block is inserted, or as
+    /// the book is closed.
     joined: JoinedPrefix,
 }
 
@@ -104,7 +106,7 @@ impl Book {
     }
 
     /// Inserts a judged block at its number. If it isn't inserted, it is handed back, and the book is left as it was.
-    /// Stranger is named before Doubled, and Doubled before Memory. Spans are moved, not copied: each once in all.
+    /// Stranger is named before Doubled, and Doubled before Memory. Spans are moved, not copied, and each is joined once.
     pub fn insert(&mut self, alloc: Global, judged: Judged) -> Result<(), (Judged, InsertFault)>
         ensures free { OnOk result (stored self.old judged.number ≡ None) }
         ensures known { OnOk result (judged.number < length self.old) }
@@ -120,6 +122,7 @@ impl Book {
         if self.places.blocks[number].is_some() {
             return Err((judged, InsertFault::Doubled));
         }
+        // Joining takes memory, so it is done before the block is put in: if it fails, the book has the same blocks.
         if self
             .joined
             .join_up_to(alloc, &mut self.places, self.reached)

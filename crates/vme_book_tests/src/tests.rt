@@ -1,3 +1,5 @@
+//! Books that take the blocks of a worked recording, of 14 steps and called *the read*, or single steps of a long one.
+
 ghost use Rattle.std.specs.Prelude.{◌≡◌, IfOk};
 ghost use Rattle.vme_summary.specs.Stands.{first_number};
 
@@ -76,8 +78,7 @@ fn insert_judged(alloc: Global, book: &mut Book, judged: Judged) -> Inserted {
     }
 }
 
-/// The result of judging and inserting a block. Where memory is short once, the verdict so far is as before, and the
-/// block that comes back is inserted.
+/// The result of judging and inserting a block.
 fn insert(alloc: Global, book: &mut Book, block: Block) -> Inserted {
     match judged(alloc, block) {
         Some(judged) => insert_judged(alloc, book, judged),
@@ -140,7 +141,7 @@ fn numbered(number: u32, block: Block) -> Block {
     }
 }
 
-/// The block again, with DS0* alone in its last step.
+/// The block again, but in its last step DS0 falls, and nothing else changes.
 fn strobe_last(alloc: Global, block: Block) -> Option<Block> {
     let Block {
         number,
@@ -280,8 +281,8 @@ fn missing(rt: HostRuntime) {
     assert!(rt; stays_open(alloc, book, CloseFault::Missing(1)));
 }
 
-/// Whether the book takes blocks 2 and 1, of which block 1 ends otherwise, and has no verdict before block 0, which it
-/// takes last. Block 1 as it was is refused.
+/// Whether the book takes block 2 and a block 1 that ends otherwise, and has no verdict before block 0, which it takes
+/// last. Block 1 as it was is refused.
 fn takes_other_lines(alloc: Global, book: &mut Book) -> bool {
     let Some(middle) = block_of_read(alloc, 1) else {
         return false;
@@ -305,7 +306,8 @@ fn torn_by_lines(rt: HostRuntime) {
     assert!(rt; stays_open(alloc, book, CloseFault::Torn(2)));
 }
 
-/// Whether the book takes block 1 as an early block 2, an empty block 1, and block 0.
+/// Whether the book takes block 1 of the read as its block 2, but with a first step at the time of the last one of block
+/// 0; an empty block 1; and block 0.
 fn takes_early_and_empty(alloc: Global, book: &mut Book) -> bool {
     let Some(middle) = block_of_read(alloc, 1) else {
         return false;
@@ -480,7 +482,7 @@ fn closes_to_many(alloc: Global, book: Book) -> bool {
     }
 }
 
-/// Whether single steps that arrive in an order make the recording again, with its break.
+/// Whether the single steps of the long recording, which arrive in an order, make it again, with its break.
 fn makes_many(alloc: Global, order: Order) -> bool {
     match book_of(alloc, 4096) {
         Some(mut book) => takes_all(alloc, &mut book, order) && closes_to_many(alloc, book),
