@@ -1,5 +1,5 @@
--- The output of an `OutputBuffer`: what is written to the sink, and what the buffer still holds. `start` is the state of
--- the sink before the first write, and `now` the one after the last.
+-- The output of an `OutputBuffer`: what is written to the sink, and what the buffer still holds. `start` is the state
+-- of the sink before the first write, and `now` the one after the last.
 use Rattle.std.specs.Prelude.{◌≡◌, ℕ, Bool, true, false, List, [], ◌++◌}
 use Rattle.vme_trace.specs.Streams.{Writing}
 use Rattle.vme_stream.specs.Outputs.{FailsToWrite, Writes}

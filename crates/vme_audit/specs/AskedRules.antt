@@ -1,6 +1,6 @@
 -- Which rules a recording asks: those whose event happens in it. A rule that is never asked can't be broken, so that a
--- recording says nothing of it. A part of a recording begins at its opening or at a break, and is looked at up to its own
--- break (`Parts`). A stretch is judged from an idle instant to a reset or to an unknown control line (`Judged` of
+-- recording says nothing of it. A part of a recording begins at its opening or at a break, and is looked at up to its
+-- own break (`Parts`). A stretch is judged from an idle instant to a reset or to an unknown control line (`Judged` of
 -- vme_trace).
 use Rattle.std.specs.Prelude.{ℕ, Bool, false, not, ◌+◌, ◌&&◌, ◌||◌, List, filter, min, nat_lt, Option, None, Some}
 use Rattle.std.specs.List.{list_any}
@@ -102,8 +102,8 @@ abbrev pub asking_end : Trace → Option Break → ℕ
 asking_end t None = last_instant t + 1
 asking_end t (Some b) = b.instant + 1
 
--- a recording whose break is `found` asks rule r in the stretch: r is the rule that ends a stretch, or its event happens
--- before the end of the stretch and up to the break
+-- a recording whose break is `found` asks rule r in the stretch: r is the rule that ends a stretch, or its event
+-- happens before the end of the stretch and up to the break
 unfoldable pub asks_in : Trace → Option Break → Rule → Stretch → Bool
 asks_in t found r stretch = ends_stretch r || any (happens t stretch r) (stretch.start + 1)
     (min stretch.end (asking_end t found))

@@ -75,25 +75,24 @@ CaptureFailsBy-equal (Dump fault) answer not_want fails = by_kind fault.line fau
     by_kind line kind not_want fails = fails
 CaptureFailsBy-equal (Binding fault) answer not_want fails = by_kind fault.line fault.kind not_want fails
   where
-    by_kind : (line : ℕ) (kind : BindFaultKind) → is_memory_fault (Binding (record { line = line; kind = kind })) ≡ false
-        → BindingFails line kind answer → answer ≡ Err (Binding (record { line = line; kind = kind }))
+    by_kind : (line : ℕ) (kind : BindFaultKind) → is_memory_fault (Binding (record { line = line; kind = kind }))
+        ≡ false → BindingFails line kind answer → answer ≡ Err (Binding (record { line = line; kind = kind }))
     by_kind line NoMemory not_want fails = absurd (cc not_want)
     by_kind line kind not_want fails = fails
 
 -- a fault that isn't want of memory may be returned where it is the result
-pub CaptureFailsBy-not_memory : (fault : CaptureFault) (answer : Result Trace CaptureFault) → is_memory_fault fault ≡ false
-    → answer ≡ Err fault → CaptureFailsBy fault answer
+pub CaptureFailsBy-not_memory : (fault : CaptureFault) (answer : Result Trace CaptureFault) → is_memory_fault fault
+    ≡ false → answer ≡ Err fault → CaptureFailsBy fault answer
 CaptureFailsBy-not_memory (Dump fault) answer not_want is = by_kind fault.line fault.kind not_want is
   where
-    by_kind : (line : ℕ) (kind : FaultKind) → is_memory_fault (Dump (record { line = line; kind = kind })) ≡ false → answer
-        ≡ Err (Dump (record { line = line; kind = kind })) → DumpFails line kind answer
+    by_kind : (line : ℕ) (kind : FaultKind) → is_memory_fault (Dump (record { line = line; kind = kind })) ≡ false
+        → answer ≡ Err (Dump (record { line = line; kind = kind })) → DumpFails line kind answer
     by_kind line Memory not_want is = absurd (cc not_want)
     by_kind line kind not_want is = is
 CaptureFailsBy-not_memory (Binding fault) answer not_want is = by_kind fault.line fault.kind not_want is
   where
-    by_kind : (line : ℕ) (kind : BindFaultKind) → is_memory_fault (Binding (record { line = line; kind = kind })) ≡ false
-        → answer
-        ≡ Err (Binding (record { line = line; kind = kind })) → BindingFails line kind answer
+    by_kind : (line : ℕ) (kind : BindFaultKind) → is_memory_fault (Binding (record { line = line; kind = kind }))
+        ≡ false → answer ≡ Err (Binding (record { line = line; kind = kind })) → BindingFails line kind answer
     by_kind line NoMemory not_want is = absurd (cc not_want)
     by_kind line kind not_want is = is
 

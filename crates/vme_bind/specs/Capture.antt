@@ -1,6 +1,6 @@
 -- The recording that a binding makes of a dump. A number `net` is that of a net of the dump, which the variables with
--- one code share, and not a net of a daisy chain (`is_net`). An instant n is the n-th of the dump's times, from 0; it is
--- an instant of the recording only if a line changes there (`is_step`).
+-- one code share, and not a net of a daisy chain (`is_net`). An instant n is the n-th of the dump's times, from 0; it
+-- is an instant of the recording only if a line changes there (`is_step`).
 use Rattle.std.specs.Prelude.{ℕ, ◌+◌, Bool, not, ◌==◌, nat_lt, if◌then◌else◌, List, [], ◌∷◌, length, map, get_or}
 use Rattle.std.specs.Prelude.{slice_get, Option, Some, None, is_some, option_and_then, Result, Ok, Err}
 use Rattle.std.specs.List.{range_with_len}

@@ -1,6 +1,6 @@
--- Relations between a bench's view before and after a call. A bench is a worker's handle to the board of blocks, and its
--- view is what it has done and seen (`View` of vme_core, which says what each field is). A draw is a number that one
--- bench alone wins. It is found won once the bench has seen that it, or another bench, has won it.
+-- Relations between a bench's view before and after a call. A bench is a worker's handle to the board of blocks, and
+-- its view is what it has done and seen (`View` of vme_core, which says what each field is). A draw is a number that
+-- one bench alone wins. It is found won once the bench has seen that it, or another bench, has won it.
 use Rattle.std.specs.Prelude.{◌≡◌, ◌⊎◌, ℕ, ◌<◌, max}
 use Rattle.vme_trace.specs.declared.block.Block.{Block}
 use Rattle.vme_core.specs.declared.view.View.{View}

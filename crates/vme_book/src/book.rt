@@ -106,7 +106,7 @@ impl Book {
     }
 
     /// Inserts a judged block at its number. If it isn't inserted, it is handed back, and the book is left as it was.
-    /// Stranger is named before Doubled, and Doubled before Memory. Spans are moved, not copied, and each is joined once.
+    /// Stranger is named before Doubled, and Doubled before Memory. Spans are moved, not copied; each is joined once.
     pub fn insert(&mut self, alloc: Global, judged: Judged) -> Result<(), (Judged, InsertFault)>
         ensures free { OnOk result (stored self.old judged.number ≡ None) }
         ensures known { OnOk result (judged.number < length self.old) }

@@ -306,8 +306,8 @@ fn torn_by_lines(rt: HostRuntime) {
     assert!(rt; stays_open(alloc, book, CloseFault::Torn(2)));
 }
 
-/// Whether the book takes block 1 of the read as its block 2, but with a first step at the time of the last one of block
-/// 0; an empty block 1; and block 0.
+/// Whether the book takes block 1 of the read as its block 2, but with a first step at the time of the last one of
+/// block 0; an empty block 1; and block 0.
 fn takes_early_and_empty(alloc: Global, book: &mut Book) -> bool {
     let Some(middle) = block_of_read(alloc, 1) else {
         return false;

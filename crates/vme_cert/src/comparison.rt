@@ -1,5 +1,5 @@
-//! The given rows, taken one by one as the expected ones start, and the least row that differs. The given rows are those
-//! of the listing that is checked, and the expected ones those of the recording's own listing.
+//! The given rows, taken one by one as the expected ones start, and the least row that differs. The given rows are
+//! those of the listing that is checked, and the expected ones those of the recording's own listing.
 
 ghost use Rattle.std.specs.Prelude.{◌≡◌, ◌<◌, ◌^◌, true, false, List, length, Some, None};
 ghost use Rattle.vme_cert.specs.Vocabulary.{Row};

@@ -25,7 +25,8 @@ returns-in_ok-failed-in-Err-clause-taken g c =
     let front = take c.whole_tokens-count.result c.args.bytes.now in
     rw c.in-Definitions.is
     (λ rest. recording_of_text-front_fails b front c.in-Err.fault c.whole_tokens-count.ensures.apart
-    c.in_ok-failed-in-Err.ensures.not_want c.in-Err.ensures.begins rest ∙ sym (c.in_ok-failed-in-Err.ensures.ahead rest))
+    c.in_ok-failed-in-Err.ensures.not_want c.in-Err.ensures.begins rest
+    ∙ sym (c.in_ok-failed-in-Err.ensures.ahead rest))
 
 pub returns-in-Ok-clause-taken : goal.returns-in-Ok-clause-taken
 returns-in-Ok-clause-taken g c =

@@ -22,7 +22,7 @@ returns g c =
     ap (λ (ss : List Step). record { opening = i.opening; steps = ss })
     (ap (λ (ws : List Step). steps_in c.push.new.self.items ++ ws) c.clear.ensures.items
     ∙ append-nil (steps_in c.push.new.self.items)
-    ∙ steps_in-with_chunk i.opening i.left i.chunks.items c.push.new.self.items c.in_ok-chunk.chunk steps c.self.invariant
-    c.in_ok-push.ensures.items c.in_ok-chunk.ensures
+    ∙ steps_in-with_chunk i.opening i.left i.chunks.items c.push.new.self.items c.in_ok-chunk.chunk steps
+    c.self.invariant c.in_ok-push.ensures.items c.in_ok-chunk.ensures
     ∙ ap (λ (ws : List Step). steps_in i.chunks.items ++ ws) c.deref.ensures.value)
     ∙ c.self.view_is
