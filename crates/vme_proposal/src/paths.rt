@@ -6,12 +6,12 @@ use vme_declarations::{
 };
 use vme_text::Text;
 
-/// How a binding can name some bits of a variable.
+/// How a binding can name some bits of a variable, in the format of bindings (docs/FORMATS.md).
 #[derive(Clone, Copy, PartialEq, Eq)]
 pub(crate) enum Naming {
     /// By the path alone.
     Whole,
-    /// By the path and their numbers.
+    /// By the path and their numbers: `[n]` or `[m:l]` after the path.
     Selected,
     /// Not at all, since the variable has no index.
     Unnumbered,
@@ -27,7 +27,7 @@ pub(crate) struct Paths<'a> {
     path: Vec<u8>,
     /// For each scope of the dump, the offset in `path` after the scope's own path and a dot, or `NOWHERE`.
     offsets: Vec<usize>,
-    /// The places of those variables.
+    /// The places of those variables among all that are declared.
     near: Vec<usize>,
 }
 
@@ -54,12 +54,12 @@ impl<'a> Paths<'a> {
         })
     }
 
-    /// A variable by its place.
+    /// The variable at a place among all that are declared.
     pub(crate) fn variable(&self, place: usize) -> Option<&DeclaredVariable> {
         self.declared.variables().get(place)
     }
 
-    /// The path of the scope of a variable, with a dot at its end.
+    /// The path of the scope of a variable of `near`, with a dot at its end.
     fn around(&self, variable: &DeclaredVariable) -> &[u8] {
         match self.offsets.get(variable.scope) {
             Some(count) => self.path.get(..*count).unwrap_or(b""),
@@ -86,7 +86,8 @@ impl<'a> Paths<'a> {
         }
     }
 
-    /// Whether two variables have the same path, where the path of the scope of `longer` isn't the shorter one.
+    /// Whether two variables have the same path, where the path of the scope of `longer` is at least as long as that
+    /// of `shorter`. They may be in different scopes, since a name may have dots.
     fn is_same_inside(&self, longer: &DeclaredVariable, shorter: &DeclaredVariable) -> bool {
         let between = self
             .around(longer)
@@ -99,7 +100,8 @@ impl<'a> Paths<'a> {
         }
     }
 
-    /// Whether the path of `variable` and `selection` name no other bits.
+    /// Whether the path of `variable`, with the bit numbers `selection` or without, names no bits but those of
+    /// `variable`.
     fn is_unique(&self, variable: &DeclaredVariable, selection: Option<(u32, u32)>) -> bool {
         let bits = bits_meant(variable, selection);
         self.near.iter().all(|place| match self.variable(*place) {
@@ -111,8 +113,9 @@ impl<'a> Paths<'a> {
         })
     }
 
-    /// How the format can name `count` bits of the variable at `place`, from its bit at `from` on. A name that ends in
-    /// a bracket isn't used alone, since the bracket would be taken for a selection.
+    /// How a binding can name `count` bits of the variable at `place`, from the bit at the place `from` (from the left)
+    /// on. One bit of a variable with an index is never named without its number. A name that ends in a bracket isn't
+    /// used alone, since the bracket would be taken for a selection.
     pub(crate) fn naming(&self, place: usize, from: u32, count: u32) -> Naming {
         let Some(variable) = self.variable(place) else {
             return Naming::Unnumbered;
@@ -141,7 +144,8 @@ pub(crate) fn selection_of(variable: &DeclaredVariable, from: u32, count: u32) -
     (variable.number_of_bit(from), variable.number_of_bit(last))
 }
 
-/// The bits of `variable` that `selection` selects: their net, the place of the first bit, and their count.
+/// The bits of `variable` that `selection` selects: their net, the place of the first bit, and their count. Variables
+/// that a dump declares with one identifier code are one net.
 fn bits_meant(
     variable: &DeclaredVariable,
     selection: Option<(u32, u32)>,
