@@ -9,8 +9,8 @@ use vme_annotate::annotate;
 use vme_trace::Sink;
 use vme_words::AnnotateOrder;
 
-/// Writes the dump of the files that an order names, annotated with the listing of its recording: the binding is
-/// opened, and then the dump. The answer is the exit status.
+/// Writes the dump of the files that an order (the parsed arguments) names, annotated with the listing of its
+/// recording: the binding is opened, and then the dump. The answer is the exit status.
 #[inline(never)]
 pub fn annotate_files<S: Environment, O: Sink, E: Sink>(
     alloc: Global,

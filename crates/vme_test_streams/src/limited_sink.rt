@@ -5,12 +5,14 @@ ghost use Rattle.std.specs.Prelude.{None};
 use std::alloc::{AllocError, Global};
 use vme_trace::{Failed, Sink};
 
-/// A sink that keeps what is written. Once it has no room, writes fail.
+/// A sink that keeps what is written. Once it has no room, or where memory runs out, writes fail.
 #[derive(Drop)]
 pub struct LimitedSink {
     /// What was written.
     pub bytes: Vec<u8>,
+    /// How many bytes it takes at most.
     room: usize,
+    /// How many writes failed.
     failures: u64,
 }
 
@@ -35,6 +37,7 @@ impl LimitedSink {
 }
 
 impl Sink for LimitedSink {
+    // which bytes were taken is left open: a test looks at `bytes`
     ghost writing = { λ s. record { taken = None; failures = s.failures } };
 
     fn write(&mut self, bytes: &[u8]) -> Result<usize, Failed> {
