@@ -19,8 +19,8 @@ use Rattle.vme_summary.specs.MarkedRows.{is_tenure_end, is_transfer, marked_answ
 use Rattle.vme_summary.specs.MarkedRows.{marked_transfer, rows_of}
 use Rattle.vme_account.specs.KnownRows.{answered_row, answered_rows, known_at, knowns_from, pending_rows}
 use Rattle.vme_account.specs.UnendedRows.{closed, nothing_open, open_after, open_next, opens, pending_row}
-use Rattle.vme_account.specs.declared.open_rows.UnendedRows.{UnendedRows}
-use Rattle.vme_account.specs.declared.open_rows.Waiting.{Waiting}
+use Rattle.vme_account.specs.declared.unended_rows.UnendedRows.{UnendedRows}
+use Rattle.vme_account.specs.declared.unended_rows.Waiting.{Waiting}
 
 -- the mark of the kind `k` at instant `i`
 abbrev mark : ℕ → MarkKind → Mark

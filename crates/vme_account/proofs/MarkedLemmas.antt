@@ -28,18 +28,18 @@ use Rattle.vme_account.specs.declared.row_kind.RowKind.{RowKind}
 
 -- the open rows and the counts after marks `ms`, each by itself
 fold-marked_next : (ms : List Mark) (m : Marked) → fold marked_next m ms
-    ≡ record { opened = fold open_next m.opened ms; counts = fold with_row m.counts (knowns_from m.opened ms) }
+    ≡ record { unended = fold open_next m.unended ms; counts = fold with_row m.counts (knowns_from m.unended ms) }
 fold-marked_next [] m = refl
 fold-marked_next (k ∷ ms) m =
     fold-marked_next ms (marked_next m k)
-    ∙ ap (λ c. record { opened = fold open_next (open_next m.opened k) ms; counts = c })
-    (sym (fold-append with_row m.counts (known_at k.instant k.kind m.opened) (knowns_from (open_next m.opened k) ms)))
+    ∙ ap (λ c. record { unended = fold open_next (open_next m.unended k) ms; counts = c })
+    (sym (fold-append with_row m.counts (known_at k.instant k.kind m.unended) (knowns_from (open_next m.unended k) ms)))
 
 -- the open rows kept of marks are those of their listing
-pub open_in-marked : (m : Marked) (ms : List Mark) (p : Part) → m ≡ marked ms → open_in m.opened p
+pub open_in-marked : (m : Marked) (ms : List Mark) (p : Part) → m ≡ marked ms → open_in m.unended p
     ≡ open_row p (rows_of None ms)
 open_in-marked m ms p is =
-    ap (λ (m : Marked). open_in m.opened p) (is ∙ fold-marked_next ms nothing_marked) ∙ open_in-opens p ms
+    ap (λ (m : Marked). open_in m.unended p) (is ∙ fold-marked_next ms nothing_marked) ∙ open_in-opens p ms
 
 -- the counts kept of marks are those of their listing
 pub count_in-marked : (m : Marked) (ms : List Mark) (k : RowKind) → m ≡ marked ms → is_counted k ≡ true

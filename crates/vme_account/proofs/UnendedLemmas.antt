@@ -26,8 +26,8 @@ use Rattle.vme_account.specs.UnendedRows.{open_in, open_next, open_row, opens, p
 use Rattle.vme_account.specs.UnendedRows.{unless_left}
 use Rattle.vme_listing.specs.Places.{is_reset}
 use Rattle.vme_account.specs.RowKinds.{is_open, unless_reset}
-use Rattle.vme_account.specs.declared.open_rows.UnendedRows.{UnendedRows}
-use Rattle.vme_account.specs.declared.open_rows.Waiting.{Waiting}
+use Rattle.vme_account.specs.declared.unended_rows.UnendedRows.{UnendedRows}
+use Rattle.vme_account.specs.declared.unended_rows.Waiting.{Waiting}
 use Rattle.vme_account.specs.declared.row_kind.Part.{Part}
 use Rattle.vme_account.specs.declared.row_kind.Part.TheVariants as part
 

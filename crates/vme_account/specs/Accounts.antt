@@ -95,7 +95,7 @@ pub record IsAccountOf (a : Account) (t : Trace) : Type 0 where
   pub started : found_break a ≡ None → has_started a.running.value.judged.memories.known
       ≡ has_any_stretch (judged_stretches t)
   pub after : found_break a ≡ None → last_levels a ≡ levels_at t (length t.steps)
-  pub unended : (p : Part) → open_in a.opened p ≡ open_row p (recorded_rows t)
+  pub unended : (p : Part) → open_in a.unended p ≡ open_row p (recorded_rows t)
   pub counts : (k : RowKind) → is_counted k ≡ true → count_in a.counts k ≡ count_by (is_of k) (recorded_rows t)
   pub kept : AreStored t.opening t.steps a.running.value.kept
   pub times : AreTimes t a.running.value.judged.notes.times

@@ -10,8 +10,8 @@ use Rattle.vme_monitor.specs.declared.mark.MarkKind.TheVariants as kind
 use Rattle.vme_monitor.specs.declared.mark.TransferAnswer.{TransferAnswer}
 use Rattle.vme_summary.specs.MarkedRows.{marked_answer, marked_cycle}
 use Rattle.vme_account.specs.UnendedRows.{open_next, pending_row}
-use Rattle.vme_account.specs.declared.open_rows.UnendedRows.{UnendedRows}
-use Rattle.vme_account.specs.declared.open_rows.Waiting.{Waiting}
+use Rattle.vme_account.specs.declared.unended_rows.UnendedRows.{UnendedRows}
+use Rattle.vme_account.specs.declared.unended_rows.Waiting.{Waiting}
 
 -- the waiting transfer's row, if it stays without an answer
 abbrev pub pending_rows : Option Waiting → List Row

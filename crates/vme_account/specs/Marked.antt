@@ -10,14 +10,14 @@ use Rattle.vme_account.specs.declared.row_counts.RowCounts.{RowCounts}
 
 -- the state before any mark
 abbrev pub nothing_marked : Marked
-nothing_marked = record { opened = nothing_open; counts = no_rows }
+nothing_marked = record { unended = nothing_open; counts = no_rows }
 
 -- the state after one more mark
 abbrev pub marked_next : Marked → Mark → Marked
 marked_next m k =
     record {
-      opened = open_next m.opened k;
-      counts = fold with_row m.counts (known_at k.instant k.kind m.opened);
+      unended = open_next m.unended k;
+      counts = fold with_row m.counts (known_at k.instant k.kind m.unended);
     }
 
 -- the state after some marks
@@ -26,4 +26,4 @@ marked ms = fold marked_next nothing_marked ms
 
 -- the counts if no mark follows
 abbrev pub counts_in : Marked → RowCounts
-counts_in m = fold with_row m.counts (pending_rows m.opened.waiting)
+counts_in m = fold with_row m.counts (pending_rows m.unended.waiting)

@@ -12,10 +12,10 @@ use Rattle.vme_monitor.specs.declared.mark.TransferAnswer.{TransferAnswer}
 use Rattle.vme_summary.specs.MarkedRows.{marked_cycle, marked_direction, marked_line}
 use Rattle.vme_listing.specs.Places.{is_reset}
 use Rattle.vme_account.specs.RowKinds.{is_open, unless_reset}
-use Rattle.vme_account.specs.declared.open_rows.UnendedRows.{UnendedRows}
+use Rattle.vme_account.specs.declared.unended_rows.UnendedRows.{UnendedRows}
 use Rattle.vme_account.specs.declared.row_kind.Part.{Part}
 use Rattle.vme_account.specs.declared.row_kind.Part.TheVariants as part
-use Rattle.vme_account.specs.declared.open_rows.Waiting.{Waiting}
+use Rattle.vme_account.specs.declared.unended_rows.Waiting.{Waiting}
 
 -- the last row of a listing that is of part `p` and is open, if no reset follows it
 abbrev pub open_row : Part → List Row → Option Row

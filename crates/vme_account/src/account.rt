@@ -20,12 +20,12 @@ ghost use Rattle.vme_account.specs.StretchEvents.{is_kept};
 
 use crate::last_events::Moment;
 use crate::line_notes::has_idle_level;
-use crate::open_rows::UnendedRows;
 use crate::related_event::RelatedEvent;
 use crate::row_counts::RowCounts;
 use crate::row_kind::{Part, RowKind};
 use crate::running_account::RunningAccount;
 use crate::stretches::StartedTenure;
+use crate::unended_rows::UnendedRows;
 use std::alloc::{AllocError, Global};
 use vme_listing::Row;
 use vme_trace::{Break, Line, Lines, Verdict};
@@ -37,7 +37,7 @@ pub struct Account {
     pub(crate) opening: Lines,
     pub(crate) running: Box<RunningAccount>,
     pub(crate) counts: RowCounts,
-    pub(crate) opened: UnendedRows,
+    pub(crate) unended: UnendedRows,
 }
 
 impl Account {
@@ -71,7 +71,7 @@ impl Account {
     pub fn open_row(&self, part: Part) -> Option<Row>
         ensures { (t : Trace) → IsAccountOf self.now t → result ≡ open_row part (recorded_rows t) }
     {
-        self.opened.of(part)
+        self.unended.of(part)
     }
 
     /// When the event happened that the break refers to, within the judged stretch, or `None` if it didn't happen

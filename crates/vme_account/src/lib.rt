@@ -10,7 +10,7 @@
 //!   `account`: [`Account`] and its queries. `running_account`: the account of the steps so far.
 //! - `followed_steps`, `step_notes`: the monitors of all rules, run from step to step up to the
 //!   first break, and what is noted of the steps.
-//! - `marked`, `open_rows`, `row_counts`, `row_kind`: the rows of the listing, by the marks from
+//! - `marked`, `unended_rows`, `row_counts`, `row_kind`: the rows of the listing, by the marks from
 //!   which it is made: the last open row of each part, and the number of rows of each kind.
 //! - `stretch_events`, `last_events`, `related_event`: the other events that a rule refers to, and
 //!   when they last happened.
@@ -50,7 +50,6 @@ mod known_times;
 mod last_events;
 mod line_notes;
 mod marked;
-mod open_rows;
 mod recent_steps;
 mod related_event;
 mod row_counts;
@@ -60,6 +59,7 @@ mod step_notes;
 mod stored_steps;
 mod stretch_events;
 mod stretches;
+mod unended_rows;
 
 pub use account::Account;
 pub use account_visitor::{AccountVisitor, NoAccount};

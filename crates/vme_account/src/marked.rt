@@ -15,8 +15,8 @@ ghost use Rattle.vme_account.specs.RowKinds.{is_of};
 ghost use Rattle.vme_account.specs.declared.row_kind.Part.{Part as PartOf};
 ghost use Rattle.vme_account.specs.declared.row_kind.RowKind.{RowKind as KindOf};
 
-use crate::open_rows::UnendedRows;
 use crate::row_counts::RowCounts;
+use crate::unended_rows::UnendedRows;
 use std::alloc::AllocError;
 use vme_monitor::mark::{
     Mark, MarkKind, StepMarks, answered_kind, cycle_kind, tenure_kind, transfer_kind, when,
@@ -26,7 +26,7 @@ use vme_trace::{Line, Lines};
 /// The open rows, and the number of rows of each kind.
 #[derive(Clone, Copy, Debug, PartialEq, Eq)]
 pub struct Marked {
-    opened: UnendedRows,
+    unended: UnendedRows,
     /// The counts without the waiting transfer.
     counts: RowCounts,
 }
@@ -37,7 +37,7 @@ impl Marked {
         ensures { result ≡ nothing_marked }
     {
         Marked {
-            opened: UnendedRows::none(),
+            unended: UnendedRows::none(),
             counts: RowCounts::none(),
         }
     }
@@ -65,13 +65,13 @@ impl Marked {
     fn busy() -> Marked
         ensures { result ≡ marked (mark_at 0 Start ∷ mark_at 0 Open ∷ []) }
     {
-        let mut opened = UnendedRows::none();
-        opened.take(&Mark {
+        let mut unended = UnendedRows::none();
+        unended.take(&Mark {
             instant: 0,
             kind: MarkKind::Open,
         });
         Marked {
-            opened,
+            unended,
             counts: RowCounts::with_open_tenure(),
         }
     }
@@ -122,18 +122,18 @@ impl Marked {
     pub fn take(&mut self, mark: &Mark) -> Result<(), AllocError>
         ensures { OnOk result (self.new ≡ marked_next self.old mark.now) }
     {
-        self.counts.take(mark, &self.opened)?;
-        self.opened.take(mark);
+        self.counts.take(mark, &self.unended)?;
+        self.unended.take(mark);
         Ok(())
     }
 
     /// The last open rows: after the marks of a recording, those of its listing.
-    pub fn opened(&self) -> UnendedRows
-        ensures value { result ≡ self.now.opened }
+    pub fn unended(&self) -> UnendedRows
+        ensures value { result ≡ self.now.unended }
         ensures listed { (ms : List MarkOf) (p : PartOf) → self.now ≡ marked ms
             → open_in result p ≡ open_row p (rows_of None ms) }
     {
-        self.opened
+        self.unended
     }
 
     /// The number of rows of each kind, if no mark follows: after the marks of a recording, those of its listing. It
@@ -144,7 +144,7 @@ impl Marked {
             → IfOk result (λ c. count_in c k ≡ count_by (is_of k) (rows_of None ms)) }
     {
         let mut counts = self.counts;
-        counts.leave(&self.opened)?;
+        counts.leave(&self.unended)?;
         Ok(counts)
     }
 }

@@ -5,8 +5,8 @@ ghost use Rattle.std.specs.List.{fold};
 ghost use Rattle.vme_account.specs.KnownRows.{answered_rows, known_at, pending_rows};
 ghost use Rattle.vme_account.specs.RowCounts.{count_in, no_rows, one_if, tenures_of, with_row, with_tenure};
 
-use crate::open_rows::UnendedRows;
 use crate::row_kind::{RowKind, is_of};
+use crate::unended_rows::UnendedRows;
 use std::alloc::AllocError;
 use vme_listing::Row;
 use vme_monitor::mark::{Mark, MarkKind, TransferAnswer};

@@ -84,11 +84,11 @@ pub(crate) fn account_of(
     known_over_recordings();
     let marked = running.judged.notes.marked;
     let counts = marked.counts()?;
-    let opened = marked.opened();
+    let unended = marked.unended();
     Ok(Account {
         opening,
         running,
         counts,
-        opened,
+        unended,
     })
 }

@@ -31,7 +31,7 @@ returns c = λ t keeps opens ok.
           ∙ has_started-reached (λ t ok few. c.known_over_recordings.ensures.started t ok few) t ok few
           (sym j.found ∙ none);
       after = λ none. j.after none ∙ sym (levels_at-last t.opening t.steps);
-      unended = λ p. c.opened-opened.ensures.listed (reached t.opening t.steps).marks p is_marked
+      unended = λ p. c.unended-unended.ensures.listed (reached t.opening t.steps).marks p is_marked
           ∙ open_row-recorded finds shows t ok few p;
       counts = λ k is. c.in_ok-counts.ensures.listed (reached t.opening t.steps).marks k is_marked is
           ∙ count_by-recorded finds shows t ok few k;
