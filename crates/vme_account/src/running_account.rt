@@ -1,4 +1,4 @@
-//! The account of the steps so far.
+//! The account of the steps so far: what an explanation reports of them.
 
 ghost use Rattle.std.specs.Prelude.{◌≡◌, ◌+◌, ◌∷◌, ◌++◌, ◌<◌, [], List, IfOk, IfSome, None, OnOk, length};
 ghost use Rattle.vme_trace.specs.Levels.{Levels};
@@ -18,10 +18,11 @@ use vme_trace::{Lines, Step};
 /// The number of steps after a break that are kept.
 const KEPT_AFTER_BREAK: u32 = 3;
 
-/// What is known of the steps so far.
+/// What the account has of the steps so far.
 #[derive(Drop)]
 pub(crate) struct RunningAccount {
-    /// The monitors, and what is noted of the steps.
+    /// The monitors of the rules, run up to the first break, and what is noted of the steps up to there: the break, the
+    /// open rows and the counts of rows, events and times.
     pub judged: FollowedSteps,
     /// The last steps up to the end, but at most three after the break.
     pub kept: StoredSteps,
@@ -50,7 +51,8 @@ impl RunningAccount {
         self.kept.steps()
     }
 
-    /// Takes the next step. The only error is want of memory.
+    /// Takes the next step, the 67,108,864th at most: longer recordings have no account. The only error is want of
+    /// memory.
     pub fn take(&mut self, step: Step) -> Result<(), AllocError>
         requires { (o : Levels) × (x : List StepOf) × KeepsAccount o x self.old × (length x < 67108864) }
         ensures { OnOk result ((o : Levels) (x : List StepOf) → KeepsAccount o x self.old
@@ -79,6 +81,7 @@ pub(crate) fn account_of(
         → malformed_step t ≡ None → IfOk result (λ account. IsAccountOf account t) }
 {
     prove!(opening.slots() <= 21);
+    // laws, for the proof alone: the monitors find the verdict's break, the listing's marks, and whether judging starts
     first_break_is_found();
     marks_are_found();
     known_over_recordings();
