@@ -329,7 +329,7 @@ module _ (e : AskedEvents) (m : HandshakeMemory) (v w : Levels) (cs : List Chang
       at_step-any (λ e. e.arbiter_fall) (λ c. is_arbiter_grant c.line && net_falls v w c.line) (λ e c. refl) (λ e. refl)
       (λ e b. refl) (λ e. refl) (λ e. refl) (λ e. refl)
 
-  -- `acknowledge_fall` has happened after the step exactly if it had before, or a slot acknowledges on
+  -- `acknowledge_fall` has happened after the step exactly if it had before, or a slot passes the acknowledge on
   pub acknowledge_fall-at_step : stepped.acknowledge_fall ≡ (e.acknowledge_fall || any_falls is_slot_iack)
   acknowledge_fall-at_step =
       at_step-any (λ e. e.acknowledge_fall) (λ c. is_slot_iack c.line && net_falls v w c.line) (λ e c. refl) (λ e. refl)

@@ -1,7 +1,7 @@
--- Relations between a bench's view before and after a call. A bench is a worker's handle to the board. Its view has what
--- it filed (`list`), took (`takes`) and won (`draws`), its share of the board, and what it has seen: which draws are won
--- (`found`), by itself or another bench, and which numbers of blocks are claimed, filed and taken. A draw is a number
--- that one bench alone wins.
+-- Relations between a bench's view before and after a call. A bench is a worker's handle to the board. Its view has
+-- what it filed (`list`), took (`takes`) and won (`draws`), its share of the board, and what it has seen: which draws
+-- are won (`found`), by itself or another bench, and which numbers of blocks are claimed, filed and taken. A draw is a
+-- number that one bench alone wins.
 use Rattle.std.specs.Prelude.{◌≡◌, ◌⊎◌, ℕ, ◌<◌, max}
 use Rattle.vme_trace.specs.declared.block.Block.{Block}
 use Rattle.vme_core.specs.declared.view.View.{View}

@@ -6,7 +6,7 @@ use Rattle.vme_trace.specs.declared.verdict.Verdict.TheVariants.{Conforming, Bro
 use Rattle.vme_eval.specs.Recording.{Recording}
 use Rattle.vme_eval.specs.Steps.{low, high, from_idle, from_idle_but, once_granted, passed_on}
 
--- a slot grants on without being granted
+-- a slot passes a grant on that it wasn't given
 unfoldable pub slot_grants_ungranted : Recording
 slot_grants_ungranted = record {
   trace = from_idle ((low (grant 3 1) ∷ []) ∷ []);
@@ -100,7 +100,7 @@ grant_while_busy = record {
   rows = codes "start 1" ∷ codes "tenure 5 level 3 slot 2 end -" ∷ codes "verdict broken G4 9 BG3.0" ∷ [];
 }
 
--- a slot grants on while the bus is busy
+-- a slot passes a grant on while the bus is busy
 unfoldable pub slot_grants_while_busy : Recording
 slot_grants_while_busy = record {
   trace = from_idle ((low (BR 3) ∷ []) ∷ (low (grant 3 0) ∷ []) ∷ (low BBSY ∷ []) ∷ (low (grant 3 1) ∷ []) ∷ []);
