@@ -19,7 +19,7 @@ use Rattle.vme_trace.proofs.Changing.{slots-kept, level-kept}
 use Rattle.vme_trace.proofs.CutBlocks.{levels_after-append, take-next}
 use Rattle.vme_trace.proofs.ListLaws.{slice_get-append, slice_get-here}
 use Rattle.vme_trace.proofs.Ranges.{any-fails, fails-any, least-none, least-none-any}
-use Rattle.vme_trace.proofs.WellFormedSteps.{fits-at}
+use Rattle.vme_trace.proofs.WellFormedSteps.{is_step-at}
 use Rattle.vme_bind.specs.Recording.{differs, changes_between, step_between}
 use Rattle.vme_bind.proofs.RecorderLemmas.{no_difference_at}
 use Rattle.vme_bind.proofs.CaptureLemmas.{length-changed}
@@ -63,7 +63,7 @@ MayFollowParts-step t formed n step lt found =
     let sound : is_step t n ≡ true = not-false (is_step t n) (any-fails (λ i. not (is_step t i)) 0 (length t.steps) n
     (least-none-any (λ i. not (is_step t i)) 0 (length t.steps) formed) (omega arith) lt) in
     MayFollowParts-may_follow (levels_at t n) n (time_at t n) step
-    (sym (fits-at t n (levels_at t n) (time_at t n) step refl refl found)
+    (sym (is_step-at t n (levels_at t n) (time_at t n) step refl refl found)
     ∙ sound)
 
 -- each instant has as many slots as the opening
@@ -367,7 +367,7 @@ AreFormed-append o xs v clock step h may = record {
 
     last : is_step u (length xs) ≡ true
     last =
-        fits-at u (length xs) v clock step (sym (levels_at-with_step t step (length xs) (omega arith) ∙ h.left))
+        is_step-at u (length xs) v clock step (sym (levels_at-with_step t step (length xs) (omega arith) ∙ h.left))
         (sym (time_at-with_step t step (length xs) (omega arith) ∙ h.time)) (slice_get-here xs step [])
         ∙ may
 

@@ -1,4 +1,4 @@
--- Why words, i.e. arguments of the command line, are no order.
+-- Why words, i.e. arguments of the command line, are no order (no parsed command).
 use Rattle.std.specs.Prelude.{◌≡◌, ◌≢◌, List}
 use Rattle.clap.specs.Words.{IsAmong, Text, fault_of, kind_of}
 use Rattle.clap.specs.declared.error.Error.{Error}
