@@ -1,4 +1,6 @@
--- How many nodes the tables of a file so far have at most, and when two tables have too many together.
+-- How many nodes the tables of a file so far have at most, and when two tables have too many together. The table of a
+-- monitor has an entry for each memory (state) of the monitor, and nodes, which runs from several memories share;
+-- entries and nodes are numbered by 32 bits. The five monitors have 4, 147, 13, 35 and 11 memories.
 use Rattle.std.proofs.Common.{inl, inr, ℕ, ◌+◌, ◌*◌, ◌<◌, ◌≤◌, ◌^◌, Option}
 use Rattle.std.proofs.Common.{None, Some, arith}
 use Rattle.std.specs.Prelude.{◌⊎◌}
@@ -57,7 +59,8 @@ AreTooManyNodes-not_few n k j a b table small p q many = by_case (cases_lt (147 
         absurd (many (omega (arith, below, most, table.counted, p, q)))
     by_case (inr over) = over
 
--- the same of a refusal of both tables: if it is for too many nodes, k + j may be too many
+-- the same of a refusal of the tables a and b, of which one was to be made: if it is for too many nodes, k + j may be
+-- too many
 pub IsPartRefusal-not_few : (n k j : ℕ) (a b : TableValue) (why : PartRefusal) → IsTableOf n a → n ≤ 147
     → HasNodesAtMost n k a → HasNodesAtMost n j b → IsPartRefusal (FewNodes a b → ⊥) why
     → IsPartRefusal (AreTooManyNodes (k + j)) why
