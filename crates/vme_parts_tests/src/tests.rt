@@ -1,3 +1,7 @@
+//! Recordings are cut into files. A file is judged by itself, and the result is its part. Parts are joined: a joined
+//! part covers files by their numbers, in segments of 2^k files from a multiple of 2^k on. The last one tells the
+//! verdict of the whole recording, or which file is missing, torn or beyond those that are asked for.
+
 ghost use Rattle.std.specs.Prelude.{◌<◌, All, IfOk};
 ghost use Rattle.vme_part_format.specs.Bounds.{FitsPart};
 ghost use Rattle.vme_part_format.specs.Tables.{part_value};
@@ -72,7 +76,7 @@ const SPOILS: [&str; 12] = [
     "IA.1=0",
 ];
 
-/// The next number of a pseudorandom generator.
+/// The next number of a pseudorandom generator, below 2^31.
 fn next_number(state: &mut u64) -> u64 {
     *state = state
         .wrapping_mul(6364136223846793005)
@@ -162,7 +166,8 @@ fn add_words(
     add_step(alloc, steps, time, changes.as_slice())
 }
 
-/// A first step after which the bus is idle, and then the steps of one to four reads, spoiled at most twice.
+/// A first step after which the bus is idle, and then the steps of one to four reads, spoiled at most twice: one of
+/// `SPOILS` comes after a step of a read.
 fn steps_of_reads(
     alloc: Global,
     state: &mut u64,
@@ -269,7 +274,8 @@ fn cut_recording(
     files_of(alloc, state, &capture, count)
 }
 
-/// The bytes of the part of a file, whose backplane has the sum `backplane`.
+/// The bytes of the part of a file. `backplane` is the checksum by which parts of one backplane are known, and with
+/// `listing` the part has marks, of which a listing is made.
 fn part_of(
     alloc: Global,
     backplane: u64,
@@ -324,7 +330,7 @@ fn join_all(alloc: Global, texts: &[Vec<u8>]) -> Result<Vec<u8>, &'static str> {
     }
 }
 
-/// The answer of the part in `text` for `files` files.
+/// The answer of the part in `text` for a recording of `files` files, or of as many as it covers.
 fn answer_of(
     alloc: Global,
     text: &[u8],
@@ -340,6 +346,7 @@ fn segments_in(alloc: Global, text: &[u8]) -> Result<usize, &'static str> {
     Ok(part.segments.len())
 }
 
+/// A copy of `text`.
 fn copied(alloc: Global, text: &[u8]) -> Result<Vec<u8>, &'static str> {
     let mut again = Vec::new(alloc);
     again.extend_from_slice(text).map_err(|_| "no memory")?;
@@ -396,7 +403,7 @@ fn joined(
     join_all(alloc, bag.as_slice())
 }
 
-/// The answer of the part joined from the files for `count` files.
+/// The answer, for `count` files, of the part joined from the parts of `files`.
 fn told_of_files(
     alloc: Global,
     state: &mut u64,
@@ -468,7 +475,7 @@ fn every_order_tells_the_whole(rt: HostRuntime) -> Result<(), Fail> {
     Ok(())
 }
 
-/// Whether two joins of the same seven files have the same bytes, and three segments.
+/// Whether two joins of the same seven files have the same bytes, and three segments: of 4, 2 and 1 files.
 fn is_determined(alloc: Global, seed: u64, listing: bool) -> Result<bool, &'static str> {
     let mut state = seed;
     let files = cut_recording(alloc, seed, &mut state, 7)?;
@@ -505,7 +512,7 @@ fn joined_runs(
     join_two(alloc, first, second)
 }
 
-/// Ranges of files that overlap make the whole: 0 to 5 and 3 to 8.
+/// Ranges of files that overlap make the whole: 0 to 5 and 3 to 8. It has two segments, of 8 files and of 1.
 #[test]
 fn runs_that_overlap_make_the_whole(rt: HostRuntime) -> Result<(), Fail> {
     let alloc = rt.alloc();
@@ -598,7 +605,7 @@ fn left_by(file: &TestFile) -> Lines {
 }
 
 /// The file `number` with the opening and the steps of `file`. If `early`, its first step is at time 3.
-fn again(
+fn renumbered(
     alloc: Global,
     file: &TestFile,
     number: u32,
@@ -636,11 +643,11 @@ fn told_with_gap(alloc: Global, gap: u8, early: bool) -> Result<RecordingAnswer,
         return Err("too few");
     };
     files
-        .push(again(alloc, first, 0, false)?)
+        .push(renumbered(alloc, first, 0, false)?)
         .map_err(|_| "no memory")?;
     add_empty(alloc, &mut files, left_by(first), u32::from(gap))?;
     files
-        .push(again(alloc, second, u32::from(gap) + 1, early)?)
+        .push(renumbered(alloc, second, u32::from(gap) + 1, early)?)
         .map_err(|_| "no memory")?;
     told_of_files(alloc, &mut state, false, files.as_slice(), None)
 }
@@ -693,7 +700,8 @@ fn a_tear_in_levels_is_told_at_its_file(rt: HostRuntime) -> Result<(), Fail> {
     Ok(())
 }
 
-/// Why the parts of two files aren't joined, if they aren't. The second has the sum `backplane` and marks if `listing`.
+/// Why the parts of two files aren't joined, if they aren't. The first has the backplane's checksum 7 and no marks, the
+/// second the checksum `backplane`, and marks if `listing`.
 fn why_two(
     alloc: Global,
     first: &TestFile,
@@ -739,7 +747,8 @@ fn files_of_one_number_are_compared(rt: HostRuntime) -> Result<(), Fail> {
     Ok(())
 }
 
-/// Parts of other backplanes, with marks and without, and that differ aren't joined.
+/// Parts of other backplanes, with marks and without, and that differ aren't joined. The refusal has the index of the
+/// part, or the number of the file of which two parts differ.
 #[test]
 fn parts_that_dont_go_together_are_refused(rt: HostRuntime) -> Result<(), Fail> {
     let alloc = rt.alloc();
