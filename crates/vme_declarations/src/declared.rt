@@ -47,7 +47,7 @@ pub struct DeclaredVariable {
     pub index: Option<(u32, u32)>,
     /// How many bits it has.
     pub size: u32,
-    /// The net that it is a name of.
+    /// The net that it is a name of: one for all variables of one identifier code.
     pub net: u32,
     /// The next variable of the same scope, or `NOWHERE`.
     pub next: usize,
