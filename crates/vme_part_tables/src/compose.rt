@@ -149,7 +149,7 @@ fn connected(
     Ok(OutcomeTable { entries, nodes })
 }
 
-/// Whether the ways of the composition of two tables fit in 32 bits.
+/// Whether 32 bits can number the memories and nodes of the composition of two tables.
 pub fn are_few_together(first: &OutcomeTable, second: &OutcomeTable) -> bool
     requires few { length first.now.entries.items < 2 ^ 32 }
     ensures { IsTrue result

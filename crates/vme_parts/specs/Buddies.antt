@@ -1,4 +1,5 @@
--- Buddies: two segments that are the halves of one.
+-- Buddies: two segments that are the halves of one. How many memories the tables of a segment have, and whether those
+-- of two segments can be composed.
 use Rattle.std.specs.Prelude.{◌≡◌, ℕ, ◌+◌, ◌%◌, ◌^◌, ◌<◌, ◌==◌, ◌&&◌, Bool, length, nat_lt}
 use Rattle.vme_part_format.specs.Tables.{SegmentValue, TableValue, last_of}
 use Rattle.vme_part_tables.specs.Ways.{HasWays}
@@ -33,11 +34,11 @@ pub record HasTables (s : SegmentValue) : Type 0 where
   pub grant : IsTableOf 35 s.grant
   pub acknowledge : IsTableOf 11 s.acknowledge
 
--- the ways of the composition of two tables fit in 32 bits
+-- 32 bits can number the memories and nodes of the composition of two tables
 abbrev pub FewNodes : TableValue → TableValue → Type 0
 FewNodes a b = length a.entries + (length a.nodes + length b.nodes) < 2 ^ 32
 
--- the ways of the composition of each monitor's tables of two segments fit in 32 bits
+-- `FewNodes` of each monitor's tables of two segments
 pub record HaveFewNodes (s t : SegmentValue) : Type 0 where
   pub known : FewNodes s.known t.known
   pub handshake : FewNodes s.handshake t.handshake

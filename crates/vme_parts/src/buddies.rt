@@ -80,7 +80,7 @@ pub(crate) fn are_joinable(first: &Segment, second: &Segment) -> bool
     follows(first, second)
 }
 
-/// Whether the ways of the composition of two tables fit in 32 bits.
+/// Whether 32 bits can number the memories and nodes of the composition of two tables.
 pub fn nodes_are_few(first: &OutcomeTable, second: &OutcomeTable) -> bool
     requires { HasWays (table_value first.now) }
     ensures few { IsTrue result → FewNodes (table_value first.now) (table_value second.now) }
@@ -89,7 +89,7 @@ pub fn nodes_are_few(first: &OutcomeTable, second: &OutcomeTable) -> bool
     are_few_together(first, second)
 }
 
-/// Whether, for each monitor, the ways of the composition of the two tables fit in 32 bits.
+/// Whether, for each monitor, 32 bits can number the memories and nodes of the composition of the two tables.
 fn have_few_nodes(first: &Segment, second: &Segment) -> bool
     requires { HasTables (segment_value first.now) }
     ensures few { IsTrue result → HaveFewNodes (segment_value first.now) (segment_value second.now) }
