@@ -28,7 +28,7 @@ use std::sync::Wait;
 use std::thread::Threads;
 use std::{env, io};
 use vme_pod_check::{PodsOrder, check_by_pods, no_text, order_of};
-use vme_stream::{Input, Io, Refusal, complain, refusal_line};
+use vme_stream::{Input, Io, Refusal, tell_refusal};
 
 fn main(rt: HostRuntime) -> ExitCode {
     ExitCode::from(work(&rt, &rt))
@@ -103,6 +103,5 @@ fn open(rt: &HostRuntime, name: &str, input: Input) -> Result<Io<File>, Refusal>
 fn refuse(rt: &HostRuntime, refusal: &Refusal) -> u8
     ensures { result ≡ refusal_status refusal.now }
 {
-    complain(&mut Io::new(rt.stderr()), refusal_line(refusal));
-    refusal.status()
+    tell_refusal(refusal, &mut Io::new(rt.stderr()))
 }
