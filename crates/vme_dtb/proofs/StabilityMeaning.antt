@@ -253,8 +253,10 @@ module _ (t : Trace) (stretch : Stretch) where
 
     -- the transfer that starts at n + 1 has had no rising strobe
     holds_direction-start : holds_direction (suc n) (suc n) ≡ starts_between old new
-    holds_direction-start = rw (transfer_starts-between t n stretch from before,
-        none-empty (strobe_rises t) (suc n + 1)) (and-true (starts_between old new))
+    holds_direction-start = rw (
+      transfer_starts-between t n stretch from before,
+      none-empty (strobe_rises t) (suc n + 1),
+    ) (and-true (starts_between old new))
 
     -- whether the lines that a cycle needs are still held at n + 1
     pub keeps_address-any : (m : Holding) → Holds n m → keeps_address m old new ≡ any (holds_address (suc n))
