@@ -1,12 +1,11 @@
 //! Interrupt acknowledge: a slot passes it on only while the slot's input is low, within a cycle and a transfer, and
 //! before the answer.
 
-ghost use Rattle.std.specs.Prelude.{◌≡◌, ◌&&◌, ◌<◌, IsTrue};
+ghost use Rattle.std.specs.Prelude.{◌≡◌, ◌&&◌, IsTrue};
 ghost use Rattle.vme_trace.specs.Changes.{first_changed};
 ghost use Rattle.vme_trace.specs.Edges.{falls_between};
 ghost use Rattle.vme_trace.specs.LineNumbers.{has_line, input_of as input_line, is_slot_iack};
 ghost use Rattle.vme_monitor.specs.Run.{no_step_marks};
-ghost use Rattle.vme_monitor.specs.Tracking.{transfer_phase_nth, transfer_phase_place};
 ghost use Rattle.vme_monitor.specs.Whole.{FindsLeast, ShowsAll};
 ghost use Rattle.vme_chains.specs.AcknowledgeRules.{acknowledge_rules, acknowledge_shown};
 ghost use Rattle.vme_chains.specs.AcknowledgeRules.{changes_memory as changes_memory_of};
@@ -32,34 +31,6 @@ pub struct AcknowledgeMemory {
     pub answered_by_dtack: bool,
 }
 
-/// The number of the phase of a transfer.
-fn transfer_place(transfer: TransferPhase) -> usize
-    ensures place { result ≡ transfer_phase_place transfer }
-    ensures few { result < 4 }
-{
-    match transfer {
-        TransferPhase::Closed => 0,
-        TransferPhase::Reading => 1,
-        TransferPhase::Writing => 2,
-        TransferPhase::Answered => 3,
-    }
-}
-
-/// The phase of a transfer with a number.
-fn nth_transfer(k: usize) -> TransferPhase
-    ensures { result ≡ transfer_phase_nth k }
-{
-    if k == 0 {
-        TransferPhase::Closed
-    } else if k == 1 {
-        TransferPhase::Reading
-    } else if k == 2 {
-        TransferPhase::Writing
-    } else {
-        TransferPhase::Answered
-    }
-}
-
 impl Enumerable for AcknowledgeMemory {
     ghost use Rattle.vme_chains.specs.AcknowledgeRules.{acknowledge_memory_found, acknowledge_memory_nth};
     ghost use Rattle.vme_chains.specs.AcknowledgeRules.{acknowledge_memory_place, acknowledge_memory_placed};
@@ -77,7 +48,7 @@ impl Enumerable for AcknowledgeMemory {
     const COUNT: usize = 8;
 
     fn place(self) -> usize {
-        let place = transfer_place(self.transfer);
+        let place = self.transfer.place();
         if self.answered_by_dtack {
             4 + place
         } else {
@@ -88,12 +59,12 @@ impl Enumerable for AcknowledgeMemory {
     fn nth(k: usize) -> AcknowledgeMemory {
         if k < 4 {
             AcknowledgeMemory {
-                transfer: nth_transfer(k),
+                transfer: TransferPhase::nth(k),
                 answered_by_dtack: false,
             }
         } else {
             AcknowledgeMemory {
-                transfer: nth_transfer(k - 4),
+                transfer: TransferPhase::nth(k - 4),
                 answered_by_dtack: true,
             }
         }

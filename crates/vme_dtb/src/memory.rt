@@ -1,7 +1,6 @@
 //! The memory of the handshake, i.e. the state of its automaton between two steps.
 
 ghost use Rattle.std.specs.Prelude.{◌≡◌, ◌<◌};
-ghost use Rattle.vme_monitor.specs.Tracking.{transfer_phase_nth, transfer_phase_place};
 ghost use Rattle.vme_dtb.specs.MemoryNumbers.{bit};
 
 use crate::cycle::CyclePhase;
@@ -19,31 +18,6 @@ pub struct HandshakeMemory {
     pub dtack_may_rise: bool,
     /// Whether BERR* is low, and a strobe has risen since it fell.
     pub berr_may_rise: bool,
-}
-
-/// The number of a transfer's phase among all four, from 0.
-fn transfer_phase_to_place(transfer: TransferPhase) -> usize
-    ensures place { result ≡ transfer_phase_place transfer }
-    ensures below { result < 4 }
-{
-    match transfer {
-        TransferPhase::Closed => 0,
-        TransferPhase::Reading => 1,
-        TransferPhase::Writing => 2,
-        TransferPhase::Answered => 3,
-    }
-}
-
-/// The phase with this number, and the last one for numbers past them.
-fn transfer_phase_at(place: usize) -> TransferPhase
-    ensures { result ≡ transfer_phase_nth place }
-{
-    match place {
-        0 => TransferPhase::Closed,
-        1 => TransferPhase::Reading,
-        2 => TransferPhase::Writing,
-        _ => TransferPhase::Answered,
-    }
 }
 
 /// 1 for `true`, else 0.
@@ -70,7 +44,7 @@ impl Enumerable for HandshakeMemory {
     const COUNT: usize = 144;
 
     fn place(self) -> usize {
-        36 * transfer_phase_to_place(self.transfer)
+        36 * self.transfer.place()
             + 4 * self.cycle.place()
             + 2 * bit_of(self.dtack_may_rise)
             + bit_of(self.berr_may_rise)
@@ -78,7 +52,7 @@ impl Enumerable for HandshakeMemory {
 
     fn nth(k: usize) -> HandshakeMemory {
         HandshakeMemory {
-            transfer: transfer_phase_at(k / 36),
+            transfer: TransferPhase::nth(k / 36),
             cycle: CyclePhase::nth(k / 4 % 9),
             dtack_may_rise: k / 2 % 2 == 1,
             berr_may_rise: k % 2 == 1,

@@ -7,6 +7,7 @@ use std::alloc::Global;
 use vme_dtb::handshake::Dtb;
 use vme_monitor::mark::{Mark, MarkKind};
 use vme_monitor::monitor::Monitor;
+use vme_monitor::tracking::TransferPhase;
 use vme_trace::{Class, Lanes, Line, MovedBytes, Rule};
 
 /// Two reads in two cycles, the second of which starts while the first transfer is still open.
@@ -131,4 +132,13 @@ fn the_data_of_a_write_may_be_unknown(rt: HostRuntime) {
 #[test]
 fn memories_are_enumerated(rt: HostRuntime) {
     assert!(rt; enumerates_memories::<Dtb>(147));
+}
+
+/// The phases of a transfer are numbered as they are declared.
+#[test]
+fn phases_of_a_transfer_are_numbered(rt: HostRuntime) {
+    let (closed, answered) = (TransferPhase::Closed, TransferPhase::Answered);
+    assert!(rt; closed.place() == 0 && answered.place() == 3);
+    assert!(rt; TransferPhase::nth(1) == TransferPhase::Reading);
+    assert!(rt; TransferPhase::nth(2) == TransferPhase::Writing);
 }
