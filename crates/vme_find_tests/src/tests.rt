@@ -741,6 +741,26 @@ fn a_dot_in_a_name_makes_no_scope(rt: HostRuntime) {
     assert!(rt; binding_in_has(rt.alloc(), DOTTED, "top", "\nAS = top.bus.AS\n"));
 }
 
+/// A dump of a bus whose variables have a dot in their names, and of a variable that has the path of one of these, in a
+/// scope within.
+const ONE_PATH: &str =
+    "$scope module top $end\n$var wire 1 a bus.AS $end\n$var wire 1 b bus.DS0 $end\n\
+$var wire 1 c bus.DTACK $end\n$scope module bus $end\n$var wire 1 d AS $end\n$upscope $end\n$upscope $end\n\
+$enddefinitions $end\n#0 1a 1b 1c 0d\n#5 0a\n#6 0b\n";
+
+/// Texts that the binding of `ONE_PATH` in the scope top contains.
+static ONE_PATH_BOUND: [&str; 2] = [
+    "# AS was found, but the dump has different variables of the path top.bus.AS, which no binding tells apart: ",
+    "\nDS0 = top.bus.DS0\n",
+];
+
+#[test]
+fn a_path_of_variables_in_two_scopes_alone_is_left_out(rt: HostRuntime) {
+    for part in ONE_PATH_BOUND.iter() {
+        assert!(rt; binding_in_has(rt.alloc(), ONE_PATH, "top", part), "{part}");
+    }
+}
+
 /// Paths of no scope.
 static NO_SCOPES: [&str; 5] = ["tw", "top.tw", "two", "top.two.AS", "top."];
 

@@ -1,10 +1,11 @@
-//! How a binding can name bits of the variables of a scope, and of those around it.
+//! How a binding can name bits of the variables that were found.
 
 use std::alloc::{AllocError, Global};
 use vme_declarations::{
-    DeclaredNames, DeclaredVariable, NOWHERE, dotted_path, offsets_after_scopes,
+    DeclaredNames, DeclaredVariable, FoundLines, NOWHERE, dotted_path, offsets_after_scopes,
 };
 use vme_text::Text;
+use vme_trace::{LINE_COUNT, Line};
 
 /// How a binding can name some bits of a variable, in the format of bindings (docs/FORMATS.md).
 #[derive(Clone, Copy, PartialEq, Eq)]
@@ -19,7 +20,7 @@ pub(crate) enum Naming {
     Ambiguous,
 }
 
-/// The variables in the scopes whose path is a prefix of `path`: the scope itself and those around it.
+/// The paths of the variables that were found in a scope, or in the scopes around it.
 #[derive(Drop)]
 pub(crate) struct Paths<'a> {
     declared: &'a DeclaredNames,
@@ -27,31 +28,56 @@ pub(crate) struct Paths<'a> {
     path: Vec<u8>,
     /// For each scope of the dump, the offset in `path` after the scope's own path and a dot, or `NOWHERE`.
     offsets: Vec<usize>,
-    /// The places of those variables among all that are declared.
-    near: Vec<usize>,
+    /// The places of each variable that was found and of a variable with the same path, itself among them.
+    same_paths: Vec<(usize, usize)>,
 }
 
 impl<'a> Paths<'a> {
-    /// The variables in the scope `path` and in those around it.
+    /// The paths of the variables whose bits were found for the lines.
     pub(crate) fn new(
         alloc: Global,
         declared: &'a DeclaredNames,
-        path: &[u8],
+        found: &FoundLines,
     ) -> Result<Paths<'a>, AllocError> {
-        let dotted = dotted_path(alloc, path)?;
+        let dotted = dotted_path(alloc, &found.scope)?;
         let offsets = offsets_after_scopes(alloc, declared, &dotted)?;
-        let mut near = Vec::new(alloc);
-        for (place, variable) in declared.variables().iter().enumerate() {
-            if offsets.get(variable.scope).copied().unwrap_or(NOWHERE) != NOWHERE {
-                near.push(place)?;
-            }
-        }
-        Ok(Paths {
+        let mut paths = Paths {
             declared,
             path: dotted,
             offsets,
-            near,
-        })
+            same_paths: Vec::new(alloc),
+        };
+        for number in 0..LINE_COUNT {
+            if let Some(line) = Line::from_number(number) {
+                if let Some(bit_of_line) = found.bit_of_line(line) {
+                    paths.note(alloc, bit_of_line.variable)?;
+                }
+            }
+        }
+        Ok(paths)
+    }
+
+    /// Notes which variables have the path of the variable at `place`, unless that was done. They may be in different
+    /// scopes, since a name may have dots.
+    fn note(&mut self, alloc: Global, place: usize) -> Result<(), AllocError> {
+        if self.same_paths.iter().any(|pair| pair.0 == place) {
+            return Ok(());
+        }
+        let declared = self.declared;
+        let Some(variable) = declared.variables().get(place) else {
+            return Ok(());
+        };
+        let mut path = Text::new(alloc);
+        self.push_path(&mut path, variable)?;
+        let path = path.as_bytes();
+        let offsets = offsets_after_scopes(alloc, declared, path)?;
+        for (other, variable) in declared.variables().iter().enumerate() {
+            let start = offsets.get(variable.scope).copied().unwrap_or(NOWHERE);
+            if path.get(start..) == Some(declared.name_of(variable)) {
+                self.same_paths.push((place, other))?;
+            }
+        }
+        Ok(())
     }
 
     /// The variable at a place among all that are declared.
@@ -59,7 +85,7 @@ impl<'a> Paths<'a> {
         self.declared.variables().get(place)
     }
 
-    /// The path of the scope of a variable of `near`, with a dot at its end.
+    /// The path of the scope of a variable that was found, with a dot at its end.
     fn around(&self, variable: &DeclaredVariable) -> &[u8] {
         match self.offsets.get(variable.scope) {
             Some(count) => self.path.get(..*count).unwrap_or(b""),
@@ -77,35 +103,17 @@ impl<'a> Paths<'a> {
         text.push(self.declared.name_of(variable))
     }
 
-    /// Whether two variables have the same path.
-    fn is_same_path(&self, one: &DeclaredVariable, other: &DeclaredVariable) -> bool {
-        if self.around(one).len() < self.around(other).len() {
-            self.is_same_inside(other, one)
-        } else {
-            self.is_same_inside(one, other)
-        }
-    }
-
-    /// Whether two variables have the same path, where the path of the scope of `longer` is at least as long as that
-    /// of `shorter`. They may be in different scopes, since a name may have dots.
-    fn is_same_inside(&self, longer: &DeclaredVariable, shorter: &DeclaredVariable) -> bool {
-        let between = self
-            .around(longer)
-            .get(self.around(shorter).len()..)
-            .unwrap_or(b"");
-        let name = self.declared.name_of(shorter);
-        match name.get(between.len()..) {
-            Some(rest) => name.starts_with(between) && rest == self.declared.name_of(longer),
-            None => false,
-        }
-    }
-
-    /// Whether the path of `variable`, with the bit numbers `selection` or without, names no bits but those of
-    /// `variable`.
-    fn is_unique(&self, variable: &DeclaredVariable, selection: Option<(u32, u32)>) -> bool {
+    /// Whether the path of the variable at `place`, with the bit numbers `selection` or without, names no bits but
+    /// those of `variable`, which is this variable.
+    fn is_unique(
+        &self,
+        place: usize,
+        variable: &DeclaredVariable,
+        selection: Option<(u32, u32)>,
+    ) -> bool {
         let bits = bits_meant(variable, selection);
-        self.near.iter().all(|place| match self.variable(*place) {
-            Some(other) if self.is_same_path(variable, other) => {
+        self.same_paths.iter().all(|pair| match self.variable(pair.1) {
+            Some(other) if pair.0 == place => {
                 let meant = bits_meant(other, selection);
                 meant.is_none() || meant == bits
             }
@@ -124,11 +132,11 @@ impl<'a> Paths<'a> {
         let is_numbered = variable.index.is_some();
         let ends_in_bracket = self.declared.name_of(variable).ends_with(b"]");
         let may_be_whole = is_whole && !(is_numbered && count == 1) && !ends_in_bracket;
-        if may_be_whole && self.is_unique(variable, None) {
+        if may_be_whole && self.is_unique(place, variable, None) {
             return Naming::Whole;
         }
         let selection = selection_of(variable, from, count);
-        if is_numbered && self.is_unique(variable, Some(selection)) {
+        if is_numbered && self.is_unique(place, variable, Some(selection)) {
             Naming::Selected
         } else if is_numbered || may_be_whole {
             Naming::Ambiguous

@@ -33,7 +33,7 @@ pub fn propose_binding(
 ) -> Result<ProposedBinding, AllocError>
     ensures visible { IfOk result (λ proposed. IsVisible proposed.report) }
 {
-    let paths = Paths::new(alloc, declared, &found.scope)?;
+    let paths = Paths::new(alloc, declared, &found)?;
     let slots = match slots {
         Some(slots) => slots,
         None => found.slots(),
