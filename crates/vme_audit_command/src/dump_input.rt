@@ -94,6 +94,10 @@ impl DumpInput {
         requires { count ≤ length self.old }
         ensures { self.new ≡ drop count self.old }
     {
+        if count == 0 {
+            // the copy would take as long as what is held
+            return;
+        }
         let len = self.held.len();
         self.held.as_mut_slice().copy_within(count..len, 0);
         self.held.truncate(len - count);

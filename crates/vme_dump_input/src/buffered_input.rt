@@ -60,6 +60,10 @@ fn forget_first(held: &mut Vec<u8>, count: usize)
     requires { count ≤ vec_len held.old }
     ensures { held.new.items ≡ drop count held.old.items }
 {
+    if count == 0 {
+        // the copy would take as long as what is held
+        return;
+    }
     let len = held.len();
     held.as_mut_slice().copy_within(count..len, 0);
     held.truncate(len - count);
