@@ -696,6 +696,73 @@ fn a_refused_dump_is_not_explained(rt: HostRuntime) {
     assert!(rt; is_compressed(status, &out, &err));
 }
 
+/// Dumps that are refused, and what is told of each before its page.
+static REFUSED_DUMPS: [(&str, &str); 6] = [
+    (
+        "$timescale 1 ns $end\n$scope module bench $end\n$var wire 1 p AS $end\n\
+$var reg 131072 q mem [131071:0] $end\n$upscope $end\n$enddefinitions $end\n#0\n1p\n",
+        "vmecheck: dump line 4: NumberTooLarge\nb.vcd, line 4:\n    $var reg 131072 q mem [131071:0] $end\n    \
+^^^^\nNumberTooLarge: ",
+    ),
+    (
+        "$timescale 1 ns $end\n$scope module bench $end\n$var port 1 <0 AS $end\n$var port [5:0] <1 AM $end\n\
+$upscope $end\n$enddefinitions $end\n#0\n$dumpports\npH 0 6 <0\n$end\n",
+        "vmecheck: dump line 4: BadVar\nb.vcd, line 4:\n    $var port [5:0] <1 AM $end\n    ^^^^\n\
+a port of extended VCD: record with `$dumpvars` and not with `$dumpports`\nBadVar: ",
+    ),
+    (
+        "$date\n    Tue Dec  1 17:00:00 2026\n",
+        "vmecheck: dump line 1: UnfinishedSection\nb.vcd, line 1:\n    $date\n    ^^^^^\nUnfinishedSection: ",
+    ),
+    (
+        "$timescale 1 ns $end\n$scope module bench $end\n$var wire 1 p AS $end\n$upscope $end",
+        "vmecheck: dump line 4: NoEndDefinitions\nb.vcd, line 4:\n    the text ends here\nNoEndDefinitions: ",
+    ),
+    (
+        "$timescale 1 ns $end\n$scope module bench $end\n$var port 1 <0 AS $end\n$upscope $end\n\
+$enddefinitions $end\n#0\n$dumpports\npH 0 6 <0\n$end\n",
+        "vmecheck: dump line 7: BadToken\nb.vcd, line 7:\n    $dumpports\n    ^^^^^^^^^^\n\
+a section of extended VCD: record with `$dumpvars` and not with `$dumpports`\nBadToken: ",
+    ),
+    (
+        "$enddefinitions $end\n#0\n$date today $end\n$enddefinitions $end\n",
+        "vmecheck: dump line 3: BadToken\nb.vcd, line 3:\n    $date today $end\n    ^^^^^\n\
+a second header begins here: two dumps stand in one file\nBadToken: ",
+    ),
+];
+
+/// Whether the message about a refused dump begins with `told`, in `variables`, which holds the whole dump, and in
+/// `bind`, which reads it piece by piece.
+fn is_shown(alloc: Global, dump: &str, told: &str) -> bool {
+    let mut out = LimitedSink::new(alloc, 100);
+    let mut whole = LimitedSink::new(alloc, 5000);
+    let mut read = Bytes::new(dump.as_bytes());
+    let of_whole = tell_variables(alloc, &mut read, b"b.vcd", &mut out, &mut whole);
+    let mut pieces = LimitedSink::new(alloc, 5000);
+    let mut read = Bytes::new(dump.as_bytes());
+    let of_pieces = bind(
+        alloc,
+        &mut read,
+        b"b.vcd",
+        None,
+        None,
+        &mut out,
+        &mut pieces,
+    );
+    of_whole == 3
+        && of_pieces == 3
+        && out.bytes.is_empty()
+        && whole.bytes.as_slice().starts_with(told.as_bytes())
+        && pieces.bytes.as_slice().starts_with(told.as_bytes())
+}
+
+#[test]
+fn a_refused_dump_is_shown_where_it_is_at_fault(rt: HostRuntime) {
+    for (dump, told) in REFUSED_DUMPS.iter() {
+        assert!(rt; is_shown(rt.alloc(), dump, told), "{told}");
+    }
+}
+
 /// A binding of AS* and the address modifier.
 const MODIFIER_BINDING: &str =
     "slots 1\nAS = b.AS\nDS0 = 1\nDS1 = 1\nDTACK = 1\nBERR = 1\nIACK = 1\nAM = b.AM\n\

@@ -149,12 +149,13 @@ fn push_dump(
 ) -> Result<(), AllocError> {
     let span = match fault.kind {
         FaultKind::BadToken => bad_token_in(line),
+        FaultKind::NoEndDefinitions => next_word(line, line.len()),
         _ => word_at(line, 0),
     };
     push_place(shown, alloc, name, fault.line)?;
     push_marked(shown, alloc, line, span)?;
     match kind {
-        Some(FileKind::Dump) => push_hint(shown, token_of(line, span)),
+        Some(FileKind::Dump) => push_hint(shown, fault.kind, line, span),
         Some(kind) => push_file(shown, alloc, name, kind),
         None => Ok(()),
     }
@@ -202,20 +203,44 @@ fn push_file(
     shown.push(b"\n")
 }
 
-/// Appends a hint, if a token of a dump shows more than its kind of fault.
-fn push_hint(shown: &mut Text, token: &[u8]) -> Result<(), AllocError> {
-    let hint: &'static str = match token {
+/// Appends a hint, if the token of a dump that is at fault shows more than its kind of fault.
+fn push_hint(
+    shown: &mut Text,
+    fault: FaultKind,
+    line: &[u8],
+    span: WordRange,
+) -> Result<(), AllocError> {
+    let hint: &'static str = match fault {
+        FaultKind::BadToken => bad_token_hint(token_of(line, span)),
+        FaultKind::BadVar => bad_var_hint(token_of(line, next_word(line, span.end))),
+        _ => "",
+    };
+    shown.push(hint.as_bytes())
+}
+
+/// The hint for a token that may not stand where it stands, or nothing.
+fn bad_token_hint(token: &[u8]) -> &'static str {
+    match token {
         b"$date" | b"$version" | b"$scope" | b"$timescale" | b"$var" | b"$upscope" => {
             "a second header begins here: two dumps stand in one file\n"
         }
+        [b'$', ..] if token.starts_with(b"$dumpports") =>
+            "a section of extended VCD: record with `$dumpvars` and not with `$dumpports`\n",
         [b'$', ..] => "",
         [b'p', ..] =>
             "a change of extended VCD: record with `$dumpvars` and not with `$dumpports`\n",
         [b'b' | b'B', digits @ ..] if digits.iter().any(|digit| is_of_nine(*digit)) => NINE_STATES,
         [first, ..] if is_of_nine(*first) => NINE_STATES,
         _ => "",
-    };
-    shown.push(hint.as_bytes())
+    }
+}
+
+/// The hint for a declaration that is none, by the type that it gives to its variable, or nothing.
+fn bad_var_hint(type_word: &[u8]) -> &'static str {
+    match type_word {
+        b"port" => "a port of extended VCD: record with `$dumpvars` and not with `$dumpports`\n",
+        _ => "",
+    }
 }
 
 /// The hint for a letter of the nine states of std_logic.
