@@ -697,7 +697,7 @@ fn a_refused_dump_is_not_explained(rt: HostRuntime) {
 }
 
 /// Dumps that are refused, and what is told of each before its page.
-static REFUSED_DUMPS: [(&str, &str); 6] = [
+static REFUSED_DUMPS: [(&str, &str); 12] = [
     (
         "$timescale 1 ns $end\n$scope module bench $end\n$var wire 1 p AS $end\n\
 $var reg 131072 q mem [131071:0] $end\n$upscope $end\n$enddefinitions $end\n#0\n1p\n",
@@ -728,6 +728,32 @@ a section of extended VCD: record with `$dumpvars` and not with `$dumpports`\nBa
         "$enddefinitions $end\n#0\n$date today $end\n$enddefinitions $end\n",
         "vmecheck: dump line 3: BadToken\nb.vcd, line 3:\n    $date today $end\n    ^^^^^\n\
 a second header begins here: two dumps stand in one file\nBadToken: ",
+    ),
+    (
+        "$timescale 1 ns $end\n$scope module libsigrok $end\n$var wire 1 ! AS $end\n$var wire 2 \" DS $end\n\
+$upscope $end\n$enddefinitions $end\n#0 1! b11 \"\n#20 0! 1%\n",
+        "vmecheck: dump line 8: UndeclaredCode\nb.vcd, line 8:\n    #20 0! 1%\nUndeclaredCode: ",
+    ),
+    (
+        "$timescale 1 ns $end\n$scope module libsigrok $end\n$var wire 1 ! AS $end\n$var wire 2 \" DS $end\n\
+$upscope $end\n$enddefinitions $end\n#0 1! b11 \"\n#20 0! b111 \"\n",
+        "vmecheck: dump line 8: TooWide\nb.vcd, line 8:\n    #20 0! b111 \"\nTooWide: ",
+    ),
+    (
+        "$var wire 1 ! AS $end\n$enddefinitions $end\n#20 1%\n",
+        "vmecheck: dump line 3: UndeclaredCode\nb.vcd, line 3:\n    #20 1%\n        ^^\nUndeclaredCode: ",
+    ),
+    (
+        "$var wire 1 ! AS $end\n$enddefinitions $end\n#20 1! #10\n",
+        "vmecheck: dump line 3: TimeBackwards\nb.vcd, line 3:\n    #20 1! #10\nTimeBackwards: ",
+    ),
+    (
+        "$var wire 1 ! AS $end\n$enddefinitions $end\n#20 0! $end\n",
+        "vmecheck: dump line 3: BadToken\nb.vcd, line 3:\n    #20 0! $end\n           ^^^^\nBadToken: ",
+    ),
+    (
+        "$timescale 1 ns $end $end\n$enddefinitions $end\n",
+        "vmecheck: dump line 1: BadToken\nb.vcd, line 1:\n    $timescale 1 ns $end $end\nBadToken: ",
     ),
 ];
 

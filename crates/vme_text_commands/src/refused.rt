@@ -1,5 +1,6 @@
-//! What is written after the line of a refusal: the line of the input that it names, with the token marked, what kind
-//! of file the input is where another was expected, and the page of the refusal's kind.
+//! What is written after the line of a refusal: the line of the input that it names, with the token marked where the
+//! line shows which it is, what kind of file the input is where another was expected, and the page of the refusal's
+//! kind.
 
 ghost use Rattle.std.specs.Prelude.{◌++◌, IfOk, List, ℕ};
 ghost use Rattle.vme_stream.specs.Texts.{line_of, refusal_text};
@@ -138,7 +139,8 @@ pub(crate) fn show_suggestions(
     }
 }
 
-/// Appends the line of a dump at which it is refused, with the token marked, and a hint.
+/// Appends the line of a dump at which it is refused, and a hint. The token at fault is marked, if the line shows which
+/// it is.
 fn push_dump(
     shown: &mut Text,
     alloc: Global,
@@ -147,17 +149,19 @@ fn push_dump(
     fault: VcdFault,
     line: &[u8],
 ) -> Result<(), AllocError> {
-    let span = match fault.kind {
-        FaultKind::BadToken => bad_token_in(line),
-        FaultKind::NoEndDefinitions => next_word(line, line.len()),
-        _ => word_at(line, 0),
-    };
     push_place(shown, alloc, name, fault.line)?;
-    push_marked(shown, alloc, line, span)?;
+    match token_at_fault(line, fault.kind, kind) {
+        Some(span) => {
+            push_marked(shown, alloc, line, span)?;
+            if let Some(FileKind::Dump) = kind {
+                push_hint(shown, fault.kind, line, span)?;
+            }
+        }
+        None => push_unmarked(shown, alloc, line)?,
+    }
     match kind {
-        Some(FileKind::Dump) => push_hint(shown, fault.kind, line, span),
+        Some(FileKind::Dump) | None => Ok(()),
         Some(kind) => push_file(shown, alloc, name, kind),
-        None => Ok(()),
     }
 }
 
@@ -320,23 +324,133 @@ fn bad_word_in(line: &[u8]) -> WordRange {
     }
 }
 
-/// The first token of a dump's line that no body may have, or else the first one.
-fn bad_token_in(line: &[u8]) -> WordRange {
-    let first = next_word(line, 0);
-    let mut span = first;
+/// The token that a fault is at, in the line of the fault and a file of this kind, or the end of the line, if the text
+/// ends before its `$enddefinitions`. `None` if the line alone doesn't show which token it is. What is no dump is
+/// refused at its first token.
+fn token_at_fault(line: &[u8], fault: FaultKind, file: Option<FileKind>) -> Option<WordRange> {
+    match fault {
+        FaultKind::NoEndDefinitions => Some(next_word(line, line.len())),
+        FaultKind::BadToken => match file {
+            Some(FileKind::Dump) => bad_token_in(line),
+            _ => Some(word_at(line, 0)),
+        },
+        _ => only_token_at_fault(line, fault),
+    }
+}
+
+/// The token of a dump's line that may not stand there: the first that no body may have, or else the one that opens or
+/// closes a dump section. `None` if it may be another: the line has another such border before the token, or it goes on
+/// behind a section, which may have begun before the line. A line that begins with a time or a change is taken as one
+/// of the body.
+fn bad_token_in(line: &[u8]) -> Option<WordRange> {
+    if goes_on_after_end(line) {
+        return None;
+    }
+    let mut border: Option<WordRange> = None;
     let mut is_code = false;
+    let mut span = next_word(line, 0);
+    for _ in 0..line.len() {
+        let token = token_of(line, span);
+        if token.is_empty() || (!is_code && token == b"$comment".as_slice()) {
+            return border;
+        }
+        if !is_code && !may_stand(token) {
+            return if border.is_some() { None } else { Some(span) };
+        }
+        if !is_code && token.starts_with(b"$") {
+            if border.is_some() {
+                return if token == b"$end".as_slice() {
+                    border
+                } else {
+                    None
+                };
+            }
+            border = Some(span);
+        }
+        is_code = !is_code && (is_vector(token) || is_skipped(token));
+        span = next_word(line, span.end);
+    }
+    border
+}
+
+/// Whether a line has a token behind an `$end`.
+fn goes_on_after_end(line: &[u8]) -> bool {
+    let mut is_after_end = false;
+    let mut span = next_word(line, 0);
     for _ in 0..line.len() {
         let token = token_of(line, span);
         if token.is_empty() {
-            return first;
+            return false;
         }
-        if !is_code && !may_stand(token) {
-            return span;
+        if is_after_end {
+            return true;
         }
-        is_code = !is_code && matches!(token, [b'b' | b'B' | b'r' | b'R' | b's', ..]);
+        is_after_end = token == b"$end".as_slice();
         span = next_word(line, span.end);
     }
-    first
+    false
+}
+
+/// The only token of a dump's line that a fault of this kind may be at. `None` if there are several, or none.
+fn only_token_at_fault(line: &[u8], kind: FaultKind) -> Option<WordRange> {
+    let mut found: Option<WordRange> = None;
+    let mut span = next_word(line, 0);
+    for _ in 0..line.len() {
+        let token = token_of(line, span);
+        if token.is_empty() {
+            return found;
+        }
+        if may_have(token, kind) {
+            if found.is_some() {
+                return None;
+            }
+            found = Some(span);
+        }
+        span = next_word(line, span.end);
+    }
+    found
+}
+
+/// Whether a fault of this kind may be at a token, judged by the token alone, though it may be a code or a word of a
+/// section.
+fn may_have(token: &[u8], kind: FaultKind) -> bool {
+    match kind {
+        FaultKind::BadVar | FaultKind::SizeConflict => token == b"$var".as_slice(),
+        FaultKind::ScopeUnderflow => token == b"$upscope".as_slice(),
+        FaultKind::NumberTooLarge => is_time(token) || token == b"$var".as_slice(),
+        FaultKind::TimeBackwards => is_time(token),
+        FaultKind::UndeclaredCode => is_change(token),
+        FaultKind::TooWide => is_change(token) && !is_skipped(token),
+        FaultKind::UnfinishedSection => opens_section(token)
+            || is_vector(token)
+            || is_skipped(token),
+        _ => false,
+    }
+}
+
+/// Whether a token begins a section.
+fn opens_section(token: &[u8]) -> bool {
+    token.starts_with(b"$") && token != b"$end".as_slice()
+}
+
+/// Whether a token may be a time.
+fn is_time(token: &[u8]) -> bool {
+    token.starts_with(b"#") && may_stand(token)
+}
+
+/// Whether a token may be a change, or the first token of one.
+fn is_change(token: &[u8]) -> bool {
+    !token.starts_with(b"#") && !token.starts_with(b"$") && may_stand(token)
+}
+
+/// Whether a token may be the digits of a vector, which its code follows.
+fn is_vector(token: &[u8]) -> bool {
+    matches!(token, [b'b' | b'B', ..]) && may_stand(token)
+}
+
+/// Whether a token may be a real number or a string, which its code follows.
+fn is_skipped(token: &[u8]) -> bool {
+    matches!(token, [b'r' | b'R' | b's', ..])
 }
 
 /// Whether a token may be in the body of a dump, judged by how it begins.
@@ -390,6 +504,17 @@ fn fitting_end(bytes: &[u8], room: usize) -> usize {
         }
     }
     0
+}
+
+/// Appends a line of an input, cut to the columns that there are, with no token marked.
+fn push_unmarked(shown: &mut Text, alloc: Global, line: &[u8]) -> Result<(), AllocError> {
+    let kept = fitting(line, COLUMNS.saturating_sub(8));
+    shown.push(b"    ")?;
+    push_escaped(shown, alloc, line.get(..kept).unwrap_or(b""))?;
+    if kept < line.len() {
+        shown.push(b" ..")?;
+    }
+    shown.push(b"\n")
 }
 
 /// Appends a line of an input, cut to the columns that there are, with a token of it marked below.
